@@ -1,0 +1,3 @@
+-- What is proved of job tables.
+pub mod Computes
+pub mod Cases

@@ -1,0 +1,4 @@
+pub mod Judge
+pub mod Jobs
+pub mod Starts
+pub mod Call

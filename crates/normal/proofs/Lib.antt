@@ -1,0 +1,3 @@
+-- What is proved of the normal form.
+pub mod Computes
+pub mod Cases

@@ -1,0 +1,4 @@
+pub mod Gaps
+pub mod Windows
+pub mod Normal
+pub mod Call

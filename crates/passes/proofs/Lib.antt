@@ -1,0 +1,3 @@
+-- What is proved of pass tables.
+pub mod Computes
+pub mod Cases

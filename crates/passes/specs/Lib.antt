@@ -1,0 +1,3 @@
+pub mod Judge
+pub mod Expand
+pub mod Call

@@ -1,0 +1,1 @@
+// A pass table: what it is judged by, and what it expands to. Definitions only, so far.

@@ -1,0 +1,3 @@
+-- What is proved of the search.
+pub mod Computes
+pub mod Cases

@@ -1,0 +1,5 @@
+pub mod Run
+pub mod Live
+pub mod Tree
+pub mod Order
+pub mod Call
