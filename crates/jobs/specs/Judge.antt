@@ -2,7 +2,8 @@
 use Prim.Native.Nat.{ℕ}
 use mathlib.Core.Bool.{Bool, true, false, not, _||_}
 use mathlib.Core.List.{List, []}
-use mathlib.Core.Option.{Option}
+use mathlib.Core.Path.{_≡_}
+use mathlib.Core.Option.{Option, none}
 use lib.Dec.{eqb, ltb}
 use Rattle.laws.specs.Lists.{any, firstFault}
 use Rattle.records.specs.declared.JobRecord.{JobRecord}
@@ -37,3 +38,9 @@ fault4 = firstFault (λ before r. badValue r) [] 0
 
 unfoldable pub fault5 : List JobRecord → Option ℕ
 fault5 table = firstFault (λ before r. looseLink table r) [] 0 table
+
+-- a job table within the limits: none of 3, 4 and 5 holds of it
+pub record Sound (table : List JobRecord) : Type 0 where
+  pub three : fault3 table ≡ none
+  pub four : fault4 table ≡ none
+  pub five : fault5 table ≡ none
