@@ -1,2 +1,4 @@
 -- What is proved of the words of `specs/`.
 pub mod Lists
+pub mod Counting
+pub mod Pasting
