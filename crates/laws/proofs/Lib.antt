@@ -1,2 +1,3 @@
 -- What is proved of the words of `specs/`.
 pub mod Lists
+pub mod Members
