@@ -1,3 +1,4 @@
 -- What is proved of job tables.
 pub mod Computes
 pub mod Cases
+pub mod Sound

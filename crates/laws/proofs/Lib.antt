@@ -2,3 +2,5 @@
 pub mod Lists
 pub mod Counting
 pub mod Pasting
+pub mod Members
+pub mod Rows

@@ -1,3 +1,6 @@
 -- What is proved of the normal form.
 pub mod Computes
 pub mod Cases
+pub mod Closure
+pub mod Squares
+pub mod Chains
