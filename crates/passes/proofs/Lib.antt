@@ -1,3 +1,6 @@
 -- What is proved of pass tables.
 pub mod Computes
+pub mod Multiples
+pub mod Numbers
+pub mod Ceiling
 pub mod Cases

@@ -1,3 +1,4 @@
 pub mod Judge
 pub mod Expand
 pub mod Call
+pub mod Arrays
