@@ -4,3 +4,4 @@ pub mod Counting
 pub mod Pasting
 pub mod Members
 pub mod Rows
+pub mod Walking

@@ -3,4 +3,5 @@ pub mod Words
 pub mod Zeros
 pub mod Codec
 pub mod Tables
+pub mod Reading
 pub mod Computes
