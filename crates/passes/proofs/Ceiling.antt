@@ -11,7 +11,7 @@ use Rattle.laws.specs.Lists.{Every}
 use Rattle.laws.proofs.Members.{every-member, flat-member, only-member, count-member}
 use Rattle.passes.specs.declared.Passes.{Passes}
 use Rattle.passes.specs.Expand.{lcm, cycleFrom, jobCount, instances}
-use Rattle.passes.specs.Arrays.{passIn, passesAt, inOrder, PeriodsAbove}
+use Rattle.passes.specs.Arrays.{passIn, passesAt, inOrder, Timely, AllTimely}
 use Rattle.passes.proofs.Multiples.{next-multiple, lcm-first, lcm-second, lcm-least}
 use Rattle.passes.proofs.Numbers.{passesFrom, from-more, from-end, cycle-append, cycle-from}
 
@@ -40,12 +40,16 @@ module _ (passes : Passes) (n : ℕ) where
   unfolding passesAt
   at-present e = rw e
 
-  -- a pass's period is above 0
-  pub period-above : PeriodsAbove passes → n < 24 → getD (passes .present) n false ≡ true → 0 < getD (passes .period) n 0
-  unfolding PeriodsAbove inOrder passesAt passIn
-  period-above above h e =
-      every-member (λ p. 0 < p .period) above (passIn passes n)
+  -- a pass's window lies within its period, which is above 0
+  pub timely : AllTimely passes → n < 24 → getD (passes .present) n false ≡ true → Timely (passIn passes n)
+  unfolding AllTimely inOrder passesAt
+  timely all h e =
+      every-member Timely all (passIn passes n)
       (flat-member (passesAt passes) _ (passIn passes n) .1 (n, count-member 0 24 n .1 (omega arith), only-member (getD (passes .present) n false) (passIn passes n) (passIn passes n) .1 (e, refl)))
+
+  pub period-above : AllTimely passes → n < 24 → getD (passes .present) n false ≡ true → 0 < getD (passes .period) n 0
+  unfolding passIn
+  period-above all h e = timely all h e .0
 
   module _ (c : ℕ) where
     -- a cycle that no pass joins stays as it is

@@ -3,4 +3,5 @@ pub mod Computes
 pub mod Multiples
 pub mod Numbers
 pub mod Ceiling
+pub mod Instances
 pub mod Cases

@@ -51,6 +51,11 @@ unfolding jobCount
 jobCount-append cycle [] qs = sym (zero-add _)
 jobCount-append cycle (p ∷ ps) qs = omega (arith, jobCount-append cycle ps qs)
 
+-- the pass with a number has no more jobs than the passes from it on
+pub jobCount-part : (passes : Passes) (cycle n : ℕ) → n < 24 → jobCount cycle (passesAt passes n) ≤ jobCount cycle (passesFrom passes n)
+jobCount-part passes cycle n h =
+    omega (arith, ap (jobCount cycle) (from-more passes n h), jobCount-append cycle (passesAt passes n) (passesFrom passes (n + 1)))
+
 -- a turn of a loop that counts jobs: those of the pass with this number are counted, and those from the next number on are left
 pub jobCount-more : (passes : Passes) (cycle n jobs : ℕ) {r w : ℕ} → n < 24 → r ≡ jobCount cycle (passesAt passes n) → w ≡ jobs + jobCount cycle (passesFrom passes n)
     → w ≡ jobs + r + jobCount cycle (passesFrom passes (n + 1))

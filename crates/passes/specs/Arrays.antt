@@ -1,13 +1,16 @@
 -- A table's passes as the code holds them: arrays by pass number.
-use Prim.Native.Nat.{ℕ, _<_}
+use Prim.Native.Nat.{ℕ, _+_, _*_, _<_, _≤_}
 use mathlib.Core.Path.{_≡_}
 use mathlib.Core.Bool.{false}
 use mathlib.Core.List.{List, map}
-use lib.ListN.{getD}
+use lib.ListN.{length, getD}
+use lib.Seq.{paste}
 use Rattle.laws.specs.Lists.{any, count, only, flat, Every}
-use Rattle.records.specs.Record.{pass}
+use Rattle.records.specs.Record.{pass, jobBytes}
+use Rattle.records.specs.Table.{encode}
 use Rattle.records.specs.declared.Pass.{Pass}
 use Rattle.records.specs.declared.PassRecord.{PassRecord}
+use Rattle.records.specs.declared.JobRecord.{JobRecord}
 use Rattle.passes.specs.Judge.{isPass}
 use Rattle.passes.specs.Expand.{ofPass, passesInOrder, cycleOf, jobCount}
 use Rattle.passes.specs.Call.{passTable, passesNumber}
@@ -50,6 +53,14 @@ pub record Accepted (bytes : List ℕ) (held : Passes) (ticks : ℕ) : Type 0 wh
   pub passes : held ≡ passesOf (passTable bytes)
   pub cycle : ticks ≡ cycleOf (passTable bytes)
 
--- no pass has the period 0
-unfoldable pub PeriodsAbove : Passes → Type 0
-PeriodsAbove passes = Every (λ p. 0 < p .period) (inOrder passes)
+-- a pass with a period, which its window lies within
+abbrev pub Timely : Pass → Type 0
+Timely p = (0 < p .period) × (p .phase + p .within ≤ p .period)
+
+-- all passes are such
+unfoldable pub AllTimely : Passes → Type 0
+AllTimely passes = Every Timely (inOrder passes)
+
+-- an output with these records from a place on
+abbrev pub writtenAt : List ℕ → ℕ → List JobRecord → List ℕ
+writtenAt out place rs = paste out (12 * place) (encode jobBytes rs) (12 * length rs)

@@ -3,7 +3,7 @@ use crate::Passes;
 ghost use mathlib.Core.Path.{_≡_};
 ghost use Prim.Native.Nat.{_<_, _≤_, min};
 ghost use Rattle.passes.specs.Expand.{lcm, cycleFrom, jobCount};
-ghost use Rattle.passes.specs.Arrays.{passesAt, inOrder, PeriodsAbove};
+ghost use Rattle.passes.specs.Arrays.{passesAt, inOrder, AllTimely};
 
 // The first of a, 2·a, .. that b divides, or 48,001 where that is over 48,000.
 fn multiple(a: u32, b: u32) -> u32
@@ -34,7 +34,7 @@ fn common(cycle: u32, period: u16) -> u32
 
 // A cycle with the period of the pass with a number, if there is one.
 fn joined(cycle: u32, passes: Passes, number: usize) -> u32
-    requires { ⌜ (0 < cycle) × (cycle ≤ 48000) × (number < 24) × PeriodsAbove passes ⌝ }
+    requires { ⌜ (0 < cycle) × (cycle ≤ 48000) × (number < 24) × AllTimely passes ⌝ }
     ensures { λ r. ⌜ r ≡ min 48001 (cycleFrom cycle (passesAt passes number)) ⌝ }
 {
     if !passes.present[number] {
@@ -45,7 +45,7 @@ fn joined(cycle: u32, passes: Passes, number: usize) -> u32
 
 // The cycle of the passes, or 48,001 where that is over 48,000.
 pub fn cycle_of(passes: Passes) -> u32
-    requires { ⌜ PeriodsAbove passes ⌝ }
+    requires { ⌜ AllTimely passes ⌝ }
     ensures { λ r. ⌜ r ≡ min 48001 (cycleFrom 1 (inOrder passes)) ⌝ }
 {
     let mut cycle: u32 = 1;
@@ -62,7 +62,7 @@ pub fn cycle_of(passes: Passes) -> u32
 
 // How many instances the pass with a number has: none where there is no such pass.
 pub fn instances_of(passes: Passes, cycle: u32, number: usize) -> usize
-    requires { ⌜ (number < 24) × (cycle ≤ 48000) × PeriodsAbove passes ⌝ }
+    requires { ⌜ (number < 24) × (cycle ≤ 48000) × AllTimely passes ⌝ }
     ensures { λ r. ⌜ (r ≡ jobCount cycle (passesAt passes number)) × (r ≤ 48000) ⌝ }
 {
     if !passes.present[number] {
@@ -73,7 +73,7 @@ pub fn instances_of(passes: Passes, cycle: u32, number: usize) -> usize
 
 // How many jobs the passes have.
 pub fn job_count(passes: Passes, cycle: u32) -> usize
-    requires { ⌜ (cycle ≤ 48000) × PeriodsAbove passes ⌝ }
+    requires { ⌜ (cycle ≤ 48000) × AllTimely passes ⌝ }
     ensures { λ r. ⌜ r ≡ jobCount cycle (inOrder passes) ⌝ }
 {
     let mut jobs: usize = 0;

@@ -1,6 +1,9 @@
 // A pass table: read and judged, its passes in arrays by number, its cycle, and the jobs and links that it expands to.
 
 pub mod cycle;
+pub mod expand;
+pub mod judge;
+pub mod load;
 
 // The passes of a table by number: whether there is one, and what its record says.
 pub struct Passes {

@@ -3,5 +3,6 @@ pub mod Words
 pub mod Zeros
 pub mod Codec
 pub mod Tables
+pub mod Writing
 pub mod Reading
 pub mod Computes
