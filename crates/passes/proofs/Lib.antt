@@ -4,4 +4,6 @@ pub mod Multiples
 pub mod Numbers
 pub mod Ceiling
 pub mod Instances
+pub mod First
+pub mod Matches
 pub mod Cases

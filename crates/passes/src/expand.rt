@@ -13,7 +13,7 @@ use records::PassRecord;
 ghost use mathlib.Core.Path.{_≡_};
 ghost use mathlib.Core.List.{map};
 ghost use mathlib.Core.Bool.{true};
-ghost use Prim.Native.Nat.{_+_, _-_, _*_, _<_, _≤_};
+ghost use Prim.Native.Nat.{ℕ, _+_, _-_, _*_, _<_, _≤_};
 ghost use lib.ListN.{length, getD};
 ghost use Rattle.laws.specs.Lists.{count, flat};
 ghost use Rattle.records.specs.Record.{jobBytes};
@@ -145,7 +145,8 @@ fn is_matched(ends: Ends, i: usize) -> bool
 // How many links a flow has.
 fn count_matched(ends: Ends) -> usize
     requires { ⌜ EndsFit ends ⌝ }
-    ensures { λ r. ⌜ (r ≡ length (matchedLinks ends 0)) × (r ≤ 48) ⌝ }
+    ensures { λ r. ⌜ r ≤ 48 ⌝ }
+    ensures { λ r. ⌜ ((latency : ℕ) → r ≡ length (matchedLinks ends latency)) ⌝ }
 {
     let mut links: usize = 0;
     let mut i: usize = 1;
