@@ -5,3 +5,4 @@ pub mod Pasting
 pub mod Members
 pub mod Rows
 pub mod Walking
+pub mod Storing
