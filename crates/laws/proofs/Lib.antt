@@ -6,3 +6,4 @@ pub mod Adjoining
 pub mod Members
 pub mod Rows
 pub mod Walking
+pub mod Storing

@@ -11,7 +11,9 @@ use lib.ListN.{length, drop, length-map}
 use Rattle.laws.specs.Lists.{found}
 use Rattle.laws.proofs.Walking.{Next, next-of, FaultFrom, fault-step, fault-here, fault-end}
 use Rattle.records.specs.Bytes.{recordAt}
-use Rattle.records.specs.Table.{reads, readAll, unreadable, readable, decode}
+use Rattle.records.specs.Table.{reads, readAll, unreadable, readable, decode, asFound}
+use Rattle.records.specs.declared.table.Found.{Found}
+use Rattle.records.specs.declared.table.Found.the-variants.{At, Nothing}
 use Rattle.records.proofs.Tables.{unreadable-none}
 
 module _ {A : Type 0} where
@@ -96,3 +98,13 @@ module _ {A : Type 0} (read : (ℕ → ℕ) → Option A) (bytes : List ℕ) whe
       -- the record read at place i is the next of the table's records
       pub next-record : (i : ℕ) {r : A} → i < n → read (recordAt bytes i) ≡ some r → Next (decode read bytes) i r
       next-record i {r} h e = next-of (decode read bytes) i (some-first (drop i (decode read bytes)) (rw e at (decoded-from i h)) .1)
+
+-- a place that code found is the place that was looked for
+pub found-at : (o : Option ℕ) {answer : Found} {place : ℕ} → answer ≡ asFound o → answer ≡ At place → o ≡ some place
+found-at none e f = let z : _≡_ {A = ℕ} 0 1 = cc in absurd (omega arith)
+found-at (some place) e f = cc
+
+-- where code found nothing, there is nothing
+pub found-nothing : (o : Option ℕ) {answer : Found} → answer ≡ asFound o → answer ≡ Nothing → o ≡ none
+found-nothing none e f = refl
+found-nothing (some place) e f = let z : _≡_ {A = ℕ} 0 1 = cc in absurd (omega arith)
