@@ -6,4 +6,8 @@ pub mod Ceiling
 pub mod Instances
 pub mod First
 pub mod Matches
+pub mod Sound
+pub mod Least
+pub mod Held
+pub mod Pairs
 pub mod Cases
