@@ -2,3 +2,7 @@
 pub mod Computes
 pub mod Cases
 pub mod Sound
+pub mod Arrays
+pub mod Links
+pub mod Judging
+pub mod Records

@@ -5,9 +5,10 @@ use native.Mathlib.Numerals.{add-one}
 use native.Mathlib.Omega.{arith}
 use mathlib.Core.Path.{_≡_, refl, sym, ap, _∙_}
 use mathlib.Core.Bool.{Bool, true, false, _||_, or-assoc, or-comm, or-false}
-use mathlib.Core.List.{List, [], _∷_, _++_, reverse, reverseAux, reverse-append}
+use mathlib.Core.List.{List, [], _∷_, _++_, reverse, reverseAux, reverse-append, List·Memᴰ, List·Memᴰ·head, Memᴰ·append-right}
 use mathlib.Core.Option.{Option, none, some}
-use lib.ListN.{length, take, drop, drop-of-length-le}
+use lib.ListN.{length, take, drop, drop-of-length-le, take-append-drop}
+use lib.Seq.{take-all}
 use Rattle.laws.specs.Lists.{any, firstFault}
 
 module _ {A : Type 0} where
@@ -52,6 +53,16 @@ module _ {A : Type 0} where
   -- the next element is the first behind the next place
   pub behind-next : (xs : List A) (i : ℕ) {x : A} → Next xs i x → behind (i + 1) xs ≡ x ∷ behind i xs
   behind-next xs i {x} next = ap reverse (next .passed) ∙ reverse-append (take i xs) (x ∷ [])
+
+  -- at the end all elements are behind
+  pub behind-all : (xs : List A) (i : ℕ) → length xs ≤ i → behind i xs ≡ reverse xs
+  behind-all xs i h = ap reverse (take-all i xs h)
+
+  -- the next element is one of the list
+  pub next-member : (xs : List A) (i : ℕ) {x : A} → Next xs i x → List·Memᴰ x xs
+  next-member xs i {x} next =
+      let after : List·Memᴰ x (drop i xs) = rw (next .rest) (List·Memᴰ·head {x = x} refl) in
+      rw (take-append-drop i xs) at (Memᴰ·append-right (take i xs) after)
 
 module _ {A : Type 0} (bad : List A → A → Bool) where
   -- where the first element is not at fault, the others decide
