@@ -6,4 +6,5 @@ pub mod Adjoining
 pub mod Members
 pub mod Rows
 pub mod Walking
+pub mod Gathering
 pub mod Storing

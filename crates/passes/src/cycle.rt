@@ -44,7 +44,7 @@ fn joined(cycle: u32, passes: Passes, number: usize) -> u32
 }
 
 // The cycle of the passes, or 48,001 where that is over 48,000.
-pub fn cycle_of(passes: Passes) -> u32
+pub(crate) fn cycle_of(passes: Passes) -> u32
     requires { ⌜ AllTimely passes ⌝ }
     ensures { λ r. ⌜ r ≡ min 48001 (cycleFrom 1 (inOrder passes)) ⌝ }
 {
@@ -61,7 +61,7 @@ pub fn cycle_of(passes: Passes) -> u32
 }
 
 // How many instances the pass with a number has: none where there is no such pass.
-pub fn instances_of(passes: Passes, cycle: u32, number: usize) -> usize
+pub(crate) fn instances_of(passes: Passes, cycle: u32, number: usize) -> usize
     requires { ⌜ (number < 24) × (cycle ≤ 48000) × AllTimely passes ⌝ }
     ensures { λ r. ⌜ (r ≡ jobCount cycle (passesAt passes number)) × (r ≤ 48000) ⌝ }
 {
@@ -72,7 +72,7 @@ pub fn instances_of(passes: Passes, cycle: u32, number: usize) -> usize
 }
 
 // How many jobs the passes have.
-pub fn job_count(passes: Passes, cycle: u32) -> usize
+pub(crate) fn job_count(passes: Passes, cycle: u32) -> usize
     requires { ⌜ (cycle ≤ 48000) × AllTimely passes ⌝ }
     ensures { λ r. ⌜ r ≡ jobCount cycle (inOrder passes) ⌝ }
 {

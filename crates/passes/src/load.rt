@@ -26,7 +26,7 @@ pub struct Loaded {
 }
 
 // No passes.
-pub fn no_passes() -> Passes
+pub(crate) fn no_passes() -> Passes
     ensures { λ r. ⌜ r ≡ passesOf [] ⌝ }
 {
     Passes {
@@ -39,8 +39,8 @@ pub fn no_passes() -> Passes
 }
 
 // There is a pass with this number.
-pub fn is_present(passes: Passes, number: u8) -> bool
-    ensures { λ r. ⌜ r ≡ getD (passes .present) number false ⌝ }
+pub(crate) fn is_present(passes: Passes, number: u8) -> bool
+    ensures { λ b. ⌜ ((table : List PassRecord) → passes ≡ passesOf table → b ≡ getD (passesOf table .present) number false) ⌝ }
 {
     let k = number as usize;
     if k < 24 {
@@ -92,7 +92,7 @@ fn with_record(passes: Passes, r: PassRecord) -> Passes
 }
 
 // The passes of all records, or the first at fault by 3.
-pub fn load_passes(s: &[u8], n: usize) -> Loaded
+pub(crate) fn load_passes(s: &[u8], n: usize) -> Loaded
     requires { ⌜ (length (now s) ≡ 12 * n) × (unreadable (readAll inPasses (now s)) ≡ none) ⌝ }
     ensures { λ r. ⌜ r .fault ≡ asFound (fault3 (passTable (now (s .entry)))) ⌝ }
     ensures { λ r. ⌜ (fault3 (passTable (now (s .entry))) ≡ none → r .passes ≡ passesOf (passTable (now (s .entry)))) ⌝ }

@@ -5,4 +5,5 @@ pub mod Codec
 pub mod Tables
 pub mod Writing
 pub mod Reading
+pub mod Finding
 pub mod Computes

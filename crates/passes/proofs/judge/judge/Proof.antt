@@ -1,145 +1,148 @@
+-- `passes::judge::judge` meets its contract: each refusal is the lowest that holds, since what was tested before it was found not to hold, and where nothing is found
+-- the passes that were loaded are the table's. Assumes nothing.
+use Prim.Native.Nat.{ℕ}
+use mathlib.Core.Path.{_≡_, refl, _∙_, sym}
+use mathlib.Core.Bool.{false}
+use mathlib.Core.List.{List}
+use mathlib.Core.Option.{none}
 use borrow.Author.Needs.{needs}
+use Rattle.records.specs.Record.{inPasses}
+use Rattle.records.specs.Table.{badLength, readAll, unreadable}
+use Rattle.records.proofs.Finding.{whole-records}
+use Rattle.records.proofs.Reading.{found-at, found-nothing}
+use Rattle.passes.specs.Judge.{fault3, fault4, fault5}
+use Rattle.passes.specs.Call.{passTable}
+use Rattle.passes.specs.Arrays.{passesOf}
+use Rattle.passes.proofs.Judging.{one-right, two-right, three-right, four-right, five-right, none-right}
 use Rattle.passes.proofs.judge.judge.Statement.{statement}
 use Rattle.passes.proofs.judge.judge.Tie as tie
-use Rattle.passes.proofs.judge.judge.Reads as reads
-use Rattle.passes.proofs.judge.judge.Lts as lts
-use Rattle.passes.proofs.cycle.cycle_of.Reads as cycle-of-reads
-use Rattle.passes.proofs.cycle.job_count.Reads as job-count-reads
-use Rattle.passes.proofs.judge.count_flows.Reads as count-flows-reads
-use Rattle.passes.proofs.judge.first_bad_value.Reads as first-bad-value-reads
-use Rattle.passes.proofs.judge.first_loose.Reads as first-loose-reads
-use Rattle.passes.proofs.judge.first_unreadable.Reads as first-unreadable-reads
-use Rattle.passes.proofs.judge.refused.Reads as refused-reads
-use Rattle.passes.proofs.load.load_passes.Reads as load-passes-reads
-use Rattle.records.proofs.table.bad_length.Reads as bad-length-reads
 
--- src/judge.rt:171:8
+-- the table's bytes
+abbrev bytes : tie.Else1 → List ℕ
+bytes c = c .before .before .before .args .s .now
+
+-- past the first test 1 does not hold
+one : (c : tie.Else1) → badLength (bytes c) ≡ false
+one c = sym (c .before .bad-length .ensures) ∙ c .if1 .left
+
+-- past the second 2 does not
+two : (c : tie.After-enum-told) → unreadable (readAll inPasses (bytes (c .before .before .before))) ≡ none
+two c = found-nothing (unreadable (readAll inPasses (bytes (c .before .before .before)))) (c .before .before .first-unreadable .ensures) (c .enum-told .given .1)
+
+-- past the third 3 does not
+three : (c : tie.After-enum-told3) → fault3 (passTable (bytes (c .before .before .before .before .before .before))) ≡ none
+three c = found-nothing (fault3 (passTable (bytes (c .before .before .before .before .before .before)))) (c .before .before .load-passes .ensures .0) (c .enum-told3 .given .1)
+
+-- so the passes loaded are the table's
+loaded : (c : tie.After-enum-told3) → c .before .before .load-passes .result .passes ≡ passesOf (passTable (bytes (c .before .before .before .before .before .before)))
+loaded c = c .before .before .load-passes .ensures .1 (three c)
+
+-- past the fourth 4 does not
+four : (c : tie.After-enum-told5) → fault4 (passTable (bytes (c .before .before .before .before .before .before .before .before .before))) ≡ none
+four c = found-nothing (fault4 (passTable (bytes (c .before .before .before .before .before .before .before .before .before)))) (c .before .before .first-bad-value .ensures) (c .enum-told5 .given .1)
+
 bad-length-requires : tie.Need-bad-length-requires
 bad-length-requires c κs = search needs
 
--- src/judge.rt:172:9
 refused-requires : tie.Need-refused-requires
 refused-requires c κs = search needs
 
--- src/judge.rt:172:9
 returns : tie.Need-returns
-returns c = ?
+returns c = one-right (c .before .before .before .before .args .s .now) (c .refused .result) (sym (c .before .before .bad-length .ensures) ∙ c .before .if1 .taken) (c .refused .ensures)
 
--- src/judge.rt:175:26
 first-unreadable-requires : tie.Need-first-unreadable-requires
-first-unreadable-requires c κs = ?
+first-unreadable-requires c κs = whole-records (bytes c) (one c) .0
 
 enum-told : tie.Need-enum-told
 enum-told c = search needs
 
--- src/judge.rt:176:9
 enum-told-2 : tie.Need-enum-told-2
 enum-told-2 c = search needs
 
--- src/judge.rt:176:9
 refused-requires-2 : tie.Need-refused-requires-2
 refused-requires-2 c κs = search needs
 
--- src/judge.rt:176:9
 returns-2 : tie.Need-returns-2
-returns-2 c = ?
+returns-2 c =
+    let length-right = c .before .before .before .before in
+    two-right (bytes length-right) (c .refused2 .result) (one length-right)
+    (found-at (unreadable (readAll inPasses (bytes length-right))) (c .before .before .before .first-unreadable .ensures) (c .before .enum-told2 .given .1)) (c .refused2 .ensures)
 
--- src/judge.rt:178:9
 load-passes-requires : tie.Need-load-passes-requires
-load-passes-requires c κs = ?
+load-passes-requires c κs = (whole-records (bytes (c .before .before .before)) (one (c .before .before .before)) .0, two c)
 
 enum-told-3 : tie.Need-enum-told-3
 enum-told-3 c = search needs
 
--- src/judge.rt:181:9
 enum-told-4 : tie.Need-enum-told-4
 enum-told-4 c = search needs
 
--- src/judge.rt:181:9
 refused-requires-3 : tie.Need-refused-requires-3
 refused-requires-3 c κs = search needs
 
--- src/judge.rt:181:9
 returns-3 : tie.Need-returns-3
-returns-3 c = ?
+returns-3 c =
+    let all-read = c .before .before .before .before in
+    let length-right = all-read .before .before .before in
+    three-right (bytes length-right) (c .refused3 .result) (one length-right) (two all-read)
+    (found-at (fault3 (passTable (bytes length-right))) (c .before .before .before .load-passes .ensures .0) (c .before .enum-told4 .given .1)) (c .refused3 .ensures)
 
--- src/judge.rt:183:26
 first-bad-value-requires : tie.Need-first-bad-value-requires
-first-bad-value-requires c κs = ?
+first-bad-value-requires c κs =
+    let all-read = c .before .before .before in
+    let length-right = all-read .before .before .before in
+    (whole-records (bytes length-right) (one length-right) .0, two all-read)
 
 enum-told-5 : tie.Need-enum-told-5
 enum-told-5 c = search needs
 
--- src/judge.rt:184:9
 enum-told-6 : tie.Need-enum-told-6
 enum-told-6 c = search needs
 
--- src/judge.rt:184:9
 refused-requires-4 : tie.Need-refused-requires-4
 refused-requires-4 c κs = search needs
 
--- src/judge.rt:184:9
 returns-4 : tie.Need-returns-4
-returns-4 c = ?
+returns-4 c =
+    let numbers-right = c .before .before .before .before in
+    let all-read = numbers-right .before .before .before in
+    let length-right = all-read .before .before .before in
+    four-right (bytes length-right) (c .refused4 .result) (one length-right) (two all-read) (three numbers-right)
+    (found-at (fault4 (passTable (bytes length-right))) (c .before .before .before .first-bad-value .ensures) (c .before .enum-told6 .given .1)) (c .refused4 .ensures)
 
--- src/judge.rt:187:26
 first-loose-requires : tie.Need-first-loose-requires
-first-loose-requires c κs = ?
+first-loose-requires c κs =
+    let numbers-right = c .before .before .before .before in
+    let all-read = numbers-right .before .before .before in
+    let length-right = all-read .before .before .before in
+    ((whole-records (bytes length-right) (one length-right) .0, two all-read), (three numbers-right, loaded numbers-right))
 
 enum-told-7 : tie.Need-enum-told-7
 enum-told-7 c = search needs
 
--- src/judge.rt:188:9
 enum-told-8 : tie.Need-enum-told-8
 enum-told-8 c = search needs
 
--- src/judge.rt:188:9
 refused-requires-5 : tie.Need-refused-requires-5
 refused-requires-5 c κs = search needs
 
--- src/judge.rt:188:9
 returns-5 : tie.Need-returns-5
-returns-5 c = ?
+returns-5 c =
+    let values-right = c .before .before .before .before .before in
+    let numbers-right = values-right .before .before .before in
+    let all-read = numbers-right .before .before .before in
+    let length-right = all-read .before .before .before in
+    five-right (bytes length-right) (c .refused5 .result) (one length-right) (two all-read) (three numbers-right) (four values-right)
+    (found-at (fault5 (passTable (bytes length-right))) (c .before .before .before .first-loose .ensures) (c .before .enum-told8 .given .1)) (c .refused5 .ensures)
 
--- src/judge.rt:190:9
-cycle-of-requires : tie.Need-cycle-of-requires
-cycle-of-requires c κs = ?
-
--- src/judge.rt:192:9
-refused-requires-6 : tie.Need-refused-requires-6
-refused-requires-6 c κs = search needs
-
--- src/judge.rt:192:9
 returns-6 : tie.Need-returns-6
-returns-6 c = ?
-
--- src/judge.rt:194:9
-job-count-requires : tie.Need-job-count-requires
-job-count-requires c κs = ?
-
--- src/judge.rt:196:9
-refused-requires-7 : tie.Need-refused-requires-7
-refused-requires-7 c κs = search needs
-
--- src/judge.rt:196:9
-returns-7 : tie.Need-returns-7
-returns-7 c = ?
-
--- src/judge.rt:198:13
-count-flows-requires : tie.Need-count-flows-requires
-count-flows-requires c κs = ?
-
--- src/judge.rt:199:9
-refused-requires-8 : tie.Need-refused-requires-8
-refused-requires-8 c κs = search needs
-
--- src/judge.rt:199:9
-returns-8 : tie.Need-returns-8
-returns-8 c = ?
-
--- src/judge.rt:168:1
-returns-9 : tie.Need-returns-9
-returns-9 c = ?
+returns-6 c =
+    let values-right = c .before .before .before .before in
+    let numbers-right = values-right .before .before .before in
+    let all-read = numbers-right .before .before .before in
+    let length-right = all-read .before .before .before in
+    none-right (bytes length-right) _ (one length-right) (two all-read) (three numbers-right) (four values-right)
+    (found-nothing (fault5 (passTable (bytes length-right))) (c .before .before .first-loose .ensures) (c .enum-told7 .given .1)) refl (loaded numbers-right)
 
 pub judge-spec : {M : Type 1} → statement M
 judge-spec =
@@ -168,13 +171,4 @@ judge-spec =
     enum-told-8
     refused-requires-5
     returns-5
-    cycle-of-requires
-    refused-requires-6
-    returns-6
-    job-count-requires
-    refused-requires-7
-    returns-7
-    count-flows-requires
-    refused-requires-8
-    returns-8
-    returns-9)
+    returns-6)

@@ -1,29 +1,24 @@
+-- `passes::judge::loose_flow` meets its contract: the record's kind picks the case of `looseFlow`. Assumes nothing.
+use mathlib.Core.Path.{_∙_, sym, ap}
+use Rattle.passes.specs.Judge.{looseFlow}
 use borrow.Author.Needs.{needs}
 use Rattle.passes.proofs.judge.loose_flow.Statement.{statement}
 use Rattle.passes.proofs.judge.loose_flow.Tie as tie
-use Rattle.passes.proofs.judge.loose_flow.Reads as reads
-use Rattle.passes.proofs.judge.loose_flow.Lts as lts
-use Rattle.passes.proofs.judge.loose_ends.Reads as loose-ends-reads
 
--- src/judge.rt:104:29
 enum-told : tie.Need-enum-told
 enum-told c = search needs
 
--- src/judge.rt:105:23
 enum-known-r : tie.Need-enum-known-r
 enum-known-r c = search needs
 
--- src/judge.rt:105:29
 loose-ends-requires : tie.Need-loose-ends-requires
 loose-ends-requires c κs = search needs
 
--- src/judge.rt:100:1
 returns : tie.Need-returns
-returns c = ?
+returns c = λ table three e. ap (looseFlow table) (sym (c .enum-told .given .1))
 
--- src/judge.rt:100:1
 returns-2 : tie.Need-returns-2
-returns-2 c = ?
+returns-2 c = λ table three e. c .loose-ends .ensures table three e ∙ ap (looseFlow table) (sym (c .before .before .r .given .1))
 
 pub loose-flow-spec : {M : Type 1} → statement M
 loose-flow-spec = tie.close (tie.spec enum-told enum-known-r loose-ends-requires returns returns-2)
