@@ -1,8 +1,8 @@
 -- What judging a pass table rests on: the tests of 3 and 5, which look up marks in the arrays in place of records in the table, and the number that the faults found and the sizes come to.
 -- Each is by the cases of its definition.
-use Prim.Native.Nat.{ℕ, suc, _<_, _≤_}
+use Prim.Native.Nat.{ℕ, suc, _<_, _≤_, min}
 use native.Mathlib.Omega.{arith}
-use mathlib.Core.Path.{_≡_, refl, sym, _∙_}
+use mathlib.Core.Path.{_≡_, refl, sym, ap, _∙_}
 use mathlib.Core.Bool.{Bool, true, false, not, _||_}
 use mathlib.Core.List.{List, []}
 use mathlib.Core.Option.{none, some}
@@ -19,12 +19,13 @@ use Rattle.records.specs.declared.PassRecord.{PassRecord}
 use Rattle.records.specs.declared.PassRecord.the-variants.{P, F}
 use Rattle.records.proofs.Finding.{found-false, refuse-zero}
 use Rattle.passes.specs.Judge.{isPass, badNumber, looseFlow, fault3, fault4, fault5}
-use Rattle.passes.specs.Expand.{passesInOrder, flowsOf, cycleOf, jobCount, tooLarge}
+use Rattle.passes.specs.Expand.{passesInOrder, flowsOf, cycleFrom, cycleOf, jobCount, tooLarge}
 use Rattle.passes.specs.Call.{passTable, passesNumber}
-use Rattle.passes.specs.Arrays.{passesOf, JudgedAs}
+use Rattle.passes.specs.Arrays.{passesOf, inOrder, AllTimely, JudgedAs}
+use Rattle.passes.specs.declared.Passes.{Passes}
 use Rattle.passes.specs.declared.Judged.{Judged}
 use Rattle.passes.proofs.Sound.{Sound}
-use Rattle.passes.proofs.Held.{held-mark}
+use Rattle.passes.proofs.Held.{held-mark, held-order, held-timely}
 use Rattle.passes.proofs.Arrays.{present-any}
 
 module _ (p : Pass) (before : List PassRecord) where
@@ -94,6 +95,20 @@ accepted bytes e =
       flows = ltb-false 64 (length (flowsOf table)) (sizes .1);
     }
 
+module _ (table : List PassRecord) {passes : Passes} (held : passes ≡ passesOf table) where
+  -- the cycle found of the passes loaded is the table's
+  pub cycle-held : {r : ℕ} → r ≡ min 48001 (cycleFrom 1 (inOrder passes)) → r ≡ min 48001 (cycleOf table)
+  unfolding cycleOf
+  cycle-held h = h ∙ ap (λ ps. min 48001 (cycleFrom 1 ps)) (ap inOrder held ∙ held-order table)
+
+  -- each of them has a window within its period
+  pub timely-held : Sound table → AllTimely passes
+  timely-held sound = rw held (held-timely table sound)
+
+  -- the jobs counted of them are the table's
+  pub jobs-held : {c r : ℕ} → r ≡ jobCount c (inOrder passes) → c ≡ cycleOf table → r ≡ jobCount (cycleOf table) (passesInOrder table)
+  jobs-held {c} h e = h ∙ ap (jobCount c) (ap inOrder held ∙ held-order table) ∙ ap (λ c. jobCount c (passesInOrder table)) e
+
 module _ (table : List PassRecord) where
   -- 6: a cycle over 48,000 ticks
   pub cycle-large : 48000 < cycleOf table → tooLarge table ≡ true
@@ -151,14 +166,14 @@ module _ (bytes : List ℕ) (answer : Judged) where
           unfolding passesNumber
           five-right five e = refused-right 4 e (rw (one, two, three, four, five))
 
-          module _ (five : fault5 (passTable bytes) ≡ none) where
-            -- 6, where no lower number holds
-            pub six-right : tooLarge (passTable bytes) ≡ true → answer .number ≡ 6 → JudgedAs bytes answer
-            unfolding passesNumber
-            six-right six e = refused-right 5 e (rw (one, two, three, four, five, six))
+  module _ (one : badLength bytes ≡ false) (two : unreadable (readAll inPasses bytes) ≡ none) (sound : Sound (passTable bytes)) where
+    -- 6, where no lower number holds
+    pub six-right : tooLarge (passTable bytes) ≡ true → answer .number ≡ 6 → JudgedAs bytes answer
+    unfolding passesNumber
+    six-right six e = refused-right 5 e (rw (one, two, sound .three, sound .four, sound .five, six))
 
-            -- 0 and the table's passes, its cycle and how many jobs it has, where none holds
-            pub none-right : tooLarge (passTable bytes) ≡ false → answer .number ≡ 0 → answer .passes ≡ passesOf (passTable bytes) → answer .cycle ≡ cycleOf (passTable bytes)
-                → answer .jobs ≡ jobCount (cycleOf (passTable bytes)) (passesInOrder (passTable bytes)) → JudgedAs bytes answer
-            unfolding passesNumber
-            none-right six e passes cycle jobs = record { number = e ∙ sym (rw (one, two, three, four, five, six)); passes = λ z. passes; cycle = λ z. cycle; jobs = λ z. jobs }
+    -- 0 and the table's passes, its cycle and how many jobs it has, where none holds
+    pub none-right : tooLarge (passTable bytes) ≡ false → answer .number ≡ 0 → answer .passes ≡ passesOf (passTable bytes) → answer .cycle ≡ cycleOf (passTable bytes)
+        → answer .jobs ≡ jobCount (cycleOf (passTable bytes)) (passesInOrder (passTable bytes)) → JudgedAs bytes answer
+    unfolding passesNumber
+    none-right six e passes cycle jobs = record { number = e ∙ sym (rw (one, two, sound .three, sound .four, sound .five, six)); passes = λ z. passes; cycle = λ z. cycle; jobs = λ z. jobs }
