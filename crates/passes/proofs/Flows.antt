@@ -92,7 +92,7 @@ module _ (table : List PassRecord) (sound : Sound table) where
               let start = starts-before (cycleOf table) (passAt table (f .source) .period) i (number-limits table sound (f .source) (known .0) .2 .0) low inside in
               let whole = div-mul-cancel (passAt table (f .target) .period) (number-divides (f .target) (known .1)) in
               let among : (i - 1) * passAt table (f .source) .period / passAt table (f .target) .period < cycleOf table / passAt table (f .target) .period =
-                  div-lt-iff-lt-mul (number-limits table sound (f .target) (known .1) .2 .0) .1 (omega arith) in
+              div-lt-iff-lt-mul (number-limits table sound (f .target) (known .1) .2 .0) .1 (omega arith) in
               rw (ts, tt′) (omega (arith, jobs-below (f .target) (known .1)));
         }
 

@@ -14,4 +14,5 @@ pub mod Records
 pub mod Arrays
 pub mod Judging
 pub mod Flows
+pub mod Accepted
 pub mod Cases

@@ -5,9 +5,11 @@ use native.Mathlib.Omega.{arith}
 use mathlib.Core.Path.{_≡_, refl, sym, ap, _∙_}
 use mathlib.Core.Bool.{true, false}
 use mathlib.Core.List.{List, [], _∷_, _++_, map, map-append}
-use lib.ListN.{length, length-append, length-map}
+use lib.ListN.{length, drop, length-append, length-map}
 use lib.Seq.{paste}
 use Rattle.laws.specs.Lists.{count, flat}
+use Rattle.laws.proofs.Walking.{Next}
+use Rattle.laws.proofs.Gathering.{gather-more, gather-end}
 use Rattle.laws.proofs.Counting.{count-more, count-end}
 use Rattle.records.specs.Record.{jobBytes, link}
 use Rattle.records.specs.declared.Pass.{Pass}
@@ -108,3 +110,22 @@ module _ (passes : Passes) (cycle : ℕ) where
   pub pass-links : {r : PassRecord} {p : Pass} → r ≡ P p → recordLinks passes cycle r ≡ []
   unfolding recordLinks
   pass-links e = rw e
+
+  module _ (table : List PassRecord) (i : ℕ) where
+    -- the next record has no more links than are left
+    pub record-part : {r : PassRecord} → Next table i r → length (recordLinks passes cycle r) ≤ length (flat (recordLinks passes cycle) (drop i table))
+    record-part {r} next =
+        omega (arith, ap length (gather-more (recordLinks passes cycle) table i next), length-append (recordLinks passes cycle r) (flat (recordLinks passes cycle) (drop (i + 1) table)))
+
+    -- a turn of the loop that writes the links of all records
+    pub records-more : {r : PassRecord} → Next table i r → (out : List ℕ) (place next : ℕ) {after goal : List ℕ} → 12 * (place + length (recordLinks passes cycle r)) ≤ length out
+        → after ≡ written jobBytes out place (map L (recordLinks passes cycle r)) → next ≡ place + length (recordLinks passes cycle r)
+        → written jobBytes out place (map L (flat (recordLinks passes cycle) (drop i table))) ≡ goal → written jobBytes after next (map L (flat (recordLinks passes cycle) (drop (i + 1) table))) ≡ goal
+    records-more {r} here out place next room wrote on left =
+        let many : length (map L (recordLinks passes cycle r)) ≡ length (recordLinks passes cycle r) = length-map (recordLinks passes cycle r) L in
+        written-more jobs out place next (map L (flat (recordLinks passes cycle) (drop i table))) (map L (recordLinks passes cycle r)) (map L (flat (recordLinks passes cycle) (drop (i + 1) table)))
+        (ap (map L) (gather-more (recordLinks passes cycle) table i here) ∙ map-append L (recordLinks passes cycle r) (flat (recordLinks passes cycle) (drop (i + 1) table))) (omega arith) wrote (omega arith) left
+
+    -- its end
+    pub records-end : (out : List ℕ) (place : ℕ) {goal : List ℕ} → length table ≤ i → written jobBytes out place (map L (flat (recordLinks passes cycle) (drop i table))) ≡ goal → out ≡ goal
+    records-end out place h left = written-end jobs out place (map L (flat (recordLinks passes cycle) (drop i table))) (ap (map L) (gather-end (recordLinks passes cycle) table i h)) left

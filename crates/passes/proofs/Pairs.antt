@@ -48,10 +48,10 @@ module _ {A : Type 0} (h : ℕ → A) where
       step true e =
           let whole : x ≡ x / t * t = omega (arith, div-add-mod' x t, eqb-true (x % t) 0 e) in
           let agree : (j : ℕ) → List·Memᴰ j (count 1 n) → only (eqb x ((j - 1) * t)) (h (j - 1)) ≡ only (eqb (x / t) (j - 1)) (h (j - 1)) =
-              λ j m. ap (λ b. only b (h (j - 1))) (same-test (eqb x ((j - 1) * t)) (eqb (x / t) (j - 1)) (
-                λ s. eq-eqb (x / t) (j - 1) (eq-of-mul-eq-mul-right t pos (x / t) (j - 1) (sym whole ∙ eqb-true x ((j - 1) * t) s)),
-                λ s. eq-eqb x ((j - 1) * t) (whole ∙ ap (λ k. k * t) (eqb-true (x / t) (j - 1) s)),
-              )) in
+          λ j m. ap (λ b. only b (h (j - 1))) (same-test (eqb x ((j - 1) * t)) (eqb (x / t) (j - 1)) (
+            λ s. eq-eqb (x / t) (j - 1) (eq-of-mul-eq-mul-right t pos (x / t) (j - 1) (sym whole ∙ eqb-true x ((j - 1) * t) s)),
+            λ s. eq-eqb x ((j - 1) * t) (whole ∙ ap (λ k. k * t) (eqb-true (x / t) (j - 1) s)),
+          )) in
           flat-same _ _ (count 1 n) agree ∙ coming (x / t) 0 n (omega arith) (let inside : x / t < n = div-lt-iff-lt-mul pos .1 small in omega arith)
       step false e = none-starts (count 1 n) e
 
@@ -68,7 +68,7 @@ pub links-matched : (cycle : ℕ) (ps : List Pass) (f : Flow) (p q : Pass) → 0
 unfolding linksBetween pairLinks instances
 links-matched cycle ps f p q pp pq d =
     flat-same _ _ (count 1 (cycle / p .period)) (λ i m.
-      let inside = count-member 1 (cycle / p .period) i .0 m in
-      let whole : cycle / q .period * q .period ≡ cycle = div-mul-cancel (q .period) d in
-      one-pair (λ k. link (firstJob cycle ps (p .number) + (i - 1)) (firstJob cycle ps (q .number) + k) (f .latency)) ((i - 1) * p .period) (q .period) (cycle / q .period) pq
-      (omega (arith, starts-before cycle (p .period) i pp (inside .0) (omega arith))))
+    let inside = count-member 1 (cycle / p .period) i .0 m in
+    let whole : cycle / q .period * q .period ≡ cycle = div-mul-cancel (q .period) d in
+    one-pair (λ k. link (firstJob cycle ps (p .number) + (i - 1)) (firstJob cycle ps (q .number) + k) (f .latency)) ((i - 1) * p .period) (q .period) (cycle / q .period) pq
+    (omega (arith, starts-before cycle (p .period) i pp (inside .0) (omega arith))))

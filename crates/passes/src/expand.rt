@@ -1,15 +1,15 @@
 // Expanding an accepted pass table: its jobs, and the links of its flows.
-use crate::cycle::instances_of;
 use crate::Passes;
-use records::read::read_pass;
-use records::write::write_job;
-use records::write::write_link;
+use crate::cycle::instances_of;
 use records::Flow;
 use records::Job;
 use records::Link;
 use records::Pass;
 use records::PassRead;
 use records::PassRecord;
+use records::read::read_pass;
+use records::write::write_job;
+use records::write::write_link;
 ghost use mathlib.Core.Path.{_≡_};
 ghost use mathlib.Core.List.{map};
 ghost use mathlib.Core.Bool.{true};

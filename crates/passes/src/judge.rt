@@ -1,18 +1,18 @@
 // Judging a pass table: the lowest of 1 to 6 that holds, and its passes, its cycle and how many jobs it has where none does.
+use crate::Judged;
+use crate::Passes;
 use crate::cycle::cycle_of;
 use crate::cycle::job_count;
 use crate::load::is_present;
 use crate::load::load_passes;
 use crate::load::no_passes;
-use crate::Judged;
-use crate::Passes;
-use records::read::read_pass;
-use records::table::bad_length;
-use records::table::Found;
 use records::Flow;
 use records::Pass;
 use records::PassRead;
 use records::PassRecord;
+use records::read::read_pass;
+use records::table::Found;
+use records::table::bad_length;
 ghost use mathlib.Core.Path.{_≡_};
 ghost use mathlib.Core.List.{List, [], _∷_};
 ghost use mathlib.Core.Option.{none};

@@ -1,10 +1,10 @@
 // The passes of a table in arrays by number.
 use crate::Passes;
-use records::read::read_pass;
-use records::table::Found;
 use records::Pass;
 use records::PassRead;
 use records::PassRecord;
+use records::read::read_pass;
+use records::table::Found;
 ghost use mathlib.Core.Path.{_≡_};
 ghost use mathlib.Core.List.{List, [], _∷_};
 ghost use mathlib.Core.Option.{none};

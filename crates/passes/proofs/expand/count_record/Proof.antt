@@ -34,8 +34,7 @@ returns c = (sym (ap length (pass-links (c .before .before .args .passes) (c .be
 returns-2 : tie.Need-returns-2
 returns-2 c =
     let s = c .before .before .before .before .before in
-    let f = c .before .before .before .r .given .0 .0 in
-    (
+    let f = c .before .before .before .r .given .0 .0 in (
       c .count-matched .ensures .1 (f .latency) ∙ ap (λ e. length (matchedLinks e (f .latency))) (c .before .ends-of .ensures) ∙ sym (ap length (flow-links (s .args .passes) (s .args .cycle) (c .before .before .before .r .given .1))),
       c .count-matched .ensures .0,
     )

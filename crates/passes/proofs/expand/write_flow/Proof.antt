@@ -53,8 +53,7 @@ loop-again c =
     let turn = c .before .before .before .before .before .before .loop in
     let inside = c .before .before .before .before .if1 .taken in
     let wrote = c .before .before .write-matched in
-    let part = match-part (a .ends) (a .latency) (turn .i) inside in
-    (
+    let part = match-part (a .ends) (a .latency) (turn .i) inside in (
       search needs,
       search needs,
       wrote .kept .0 ∙ turn .inv .2,

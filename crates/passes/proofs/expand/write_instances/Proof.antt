@@ -59,8 +59,7 @@ loop-again : tie.Need-loop-again Inv-loop μ-loop
 loop-again c =
     let start = c .before .before .before .before .before .before .before .before in
     let turn = c .before .before .before .before .before .before .loop in
-    let wrote = c .before .before .write-job .ensures ∙ ap (λ j. paste (turn .out) (12 * (start .args .first + (turn .k - 1))) (jobBytes (J j)) 12) (c .before .before .before .instance-of .ensures) in
-    (
+    let wrote = c .before .before .write-job .ensures ∙ ap (λ j. paste (turn .out) (12 * (start .args .first + (turn .k - 1))) (jobBytes (J j)) 12) (c .before .before .before .instance-of .ensures) in (
       search needs,
       search needs,
       c .before .before .write-job .kept .0 ∙ turn .inv .2,

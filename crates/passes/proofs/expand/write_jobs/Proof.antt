@@ -35,8 +35,7 @@ abbrev μ-loop : tie.MeasureT-loop
 
 loop-holds : tie.Need-loop-holds Inv-loop μ-loop
 loop-holds c =
-    let a = c .before .args in
-    (
+    let a = c .before .args in (
       search needs,
       refl,
       ap (jobCount (a .cycle)) (from-none (a .passes)) ∙ sym (zero-add _),
@@ -59,8 +58,7 @@ loop-again c =
     let a = c .before .before .before .before .before .before .before .args in
     let turn = c .before .before .before .before .before .loop in
     let part = jobCount-part (a .passes) (a .cycle) (turn .number) (c .before .before .before .before .loop-test .taken) in
-    let wrote = c .before .before .write-pass in
-    (
+    let wrote = c .before .before .write-pass in (
       search needs,
       wrote .kept .0 ∙ turn .inv .1,
       jobCount-more (a .passes) (a .cycle) (turn .number) (turn .first) (c .before .before .before .before .loop-test .taken) refl (turn .inv .2) ∙ ap (λ n. n + jobCount (a .cycle) (passesFrom (a .passes) (turn .number + 1))) (sym (wrote .ensures .0)),

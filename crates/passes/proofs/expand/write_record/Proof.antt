@@ -49,7 +49,7 @@ returns-2 c =
     let a = c .before .before .before .before .before .before .before .before .before .args in
     let f = c .before .before .before .before .before .before .r .given .0 .0 in
     let same : matchedLinks (c .before .before .before .ends-of .result) (f .latency) ≡ recordLinks (a .passes) (a .cycle) (a .r) =
-        ap (λ e. matchedLinks e (f .latency)) (c .before .before .before .ends-of .ensures) ∙ sym (flow-links (a .passes) (a .cycle) (c .before .before .before .before .before .before .r .given .1)) in
+    ap (λ e. matchedLinks e (f .latency)) (c .before .before .before .ends-of .ensures) ∙ sym (flow-links (a .passes) (a .cycle) (c .before .before .before .before .before .before .r .given .1)) in
     (c .before .before .write-flow .ensures .0 ∙ ap (λ ls. a .place + length ls) same, c .before .before .write-flow .ensures .1 ∙ ap (λ ls. writtenAt (a .out .now) (a .place) (map L ls)) same)
 
 pub write-record-spec : {M : Type 1} → statement M

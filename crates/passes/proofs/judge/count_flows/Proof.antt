@@ -78,8 +78,7 @@ loop-less c = search needs
 
 loop-again : tie.Need-loop-again Inv-loop μ-loop
 loop-again c =
-    let loop = c .before .before .before .before .before .before in
-    (
+    let loop = c .before .before .before .before .before .before in (
       search needs,
       search needs,
       tally-more flow (passTable (loop .before .before .args .s .now)) (loop .loop .i) (loop .loop .flows) (next (c .before .before)) (ap (λ k. loop .loop .flows + k) (c .one-flow .ensures .0)) (loop .loop .inv .2),

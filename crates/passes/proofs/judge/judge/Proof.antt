@@ -47,24 +47,24 @@ four c = found-nothing (fault4 (passTable (bytes (c .before .before .before .bef
 
 -- past the fifth 5 does not: the table is sound
 abbrev numbers-read : (c : tie.After-enum-told7) → tie.After-enum-told3
-numbers-read c = c .before .before .before .before .before .before .before 
+numbers-read c = c .before .before .before .before .before .before .before
 
 abbrev bytes-of : (c : tie.After-enum-told7) → List ℕ
-bytes-of c = bytes (c .before .before .before .before .before .before .before .before .before .before .before .before .before )
+bytes-of c = bytes (c .before .before .before .before .before .before .before .before .before .before .before .before .before)
 
 abbrev table : (c : tie.After-enum-told7) → List PassRecord
 table c = passTable (bytes-of c)
 
 one-of : (c : tie.After-enum-told7) → badLength (bytes-of c) ≡ false
-one-of c = one (c .before .before .before .before .before .before .before .before .before .before .before .before .before )
+one-of c = one (c .before .before .before .before .before .before .before .before .before .before .before .before .before)
 
 two-of : (c : tie.After-enum-told7) → unreadable (readAll inPasses (bytes-of c)) ≡ none
-two-of c = two (c .before .before .before .before .before .before .before .before .before .before )
+two-of c = two (c .before .before .before .before .before .before .before .before .before .before)
 
 sound : (c : tie.After-enum-told7) → Sound (table c)
 sound c = record {
   three = three (numbers-read c);
-  four = four (c .before .before .before .before );
+  four = four (c .before .before .before .before);
   five = found-nothing (fault5 (table c)) (c .before .before .first-loose .ensures) (c .enum-told7 .given .1);
 }
 
