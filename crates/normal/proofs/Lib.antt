@@ -4,3 +4,4 @@ pub mod Cases
 pub mod Closure
 pub mod Squares
 pub mod Chains
+pub mod WindowsEarliest
