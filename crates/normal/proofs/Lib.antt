@@ -5,3 +5,4 @@ pub mod Closure
 pub mod Squares
 pub mod Chains
 pub mod WindowsEarliest
+pub mod WindowsLatest

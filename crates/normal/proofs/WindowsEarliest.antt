@@ -34,7 +34,7 @@ join table (one l) d = follow l d
 join table (follow l c) d = rw add-assoc (follow l (join table c d))
 
 -- a chain leads from a job of the table to another, and its sum is at least the first one's cost, which is above 0
-chain-known : {table : List JobRecord} → Sound table → {i j w : ℕ} → Chain table i j w
+pub chain-known : {table : List JobRecord} → Sound table → {i j w : ℕ} → Chain table i j w
     → List·Memᴰ i (numbers table) × List·Memᴰ j (numbers table) × (cost table i ≤ w) × (0 < w)
 chain-known {table} sound (one {i = i} l) = let k = link-known table sound _ l in (k .0, k .1, omega arith, omega (arith, cost-positive table sound i (k .0)))
 chain-known {table} sound (follow {i = i} l c) =
@@ -82,12 +82,12 @@ module _ {table : List JobRecord} (right : GapsRight table) where
   gap-joins i k j h l = gap-bounds (join table (gap-chain i k h) (gap-chain k j l))
 
 -- a time and the gap after it, where there is one
-after-gap : (time gap : ℕ) → 0 < gap → after time gap ≡ time + gap
+pub after-gap : (time gap : ℕ) → 0 < gap → after time gap ≡ time + gap
 after-gap time zero h = absurd (omega arith)
 after-gap time (suc gap) h = refl
 
 -- what a time and the gap after it are at most, where there is a gap
-after-least : (time gap bound : ℕ) → (0 < gap → time + gap ≤ bound) → after time gap ≤ bound
+pub after-least : (time gap bound : ℕ) → (0 < gap → time + gap ≤ bound) → after time gap ≤ bound
 after-least time zero bound h = omega arith
 after-least time (suc gap) bound h = h (omega arith)
 
