@@ -6,3 +6,6 @@ pub mod Squares
 pub mod Chains
 pub mod WindowsEarliest
 pub mod WindowsLatest
+pub mod NormalRecords
+pub mod NormalSound
+pub mod NormalPermits
