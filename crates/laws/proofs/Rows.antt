@@ -1,15 +1,15 @@
--- Laws on what a function gives at the numbers in a row, on a test of some element, and on the larger of two numbers.
--- What is looked up in such a row is the function's value or, past its end, the default; each law is by induction on the row.
+-- Laws on what a function gives at the numbers in a row, and on the larger of two numbers.
+-- What is looked up in such a row is the function's value or, past its end, the default: by induction on the row.
 use Prim.Native.Nat.{ℕ, zero, suc, _+_, _≤_, _<_, max}
 use native.Mathlib.Nat.{max-eq-left, max-eq-right, zero-add}
 use native.Mathlib.Omega.{arith}
 use mathlib.Core.Path.{_≡_, refl, ap, _∙_}
-use mathlib.Core.Bool.{Bool, true, false, _||_}
-use mathlib.Core.List.{List, [], _∷_, map}
+use mathlib.Core.Bool.{Bool, true, false}
+use mathlib.Core.List.{map}
 use lib.Dec.{leb}
 use lib.ListN.{length, getD}
 use borrow.Author.Tests.{leb-true, leb-false}
-use Rattle.laws.specs.Lists.{count, any, Every}
+use Rattle.laws.specs.Lists.{count}
 
 -- what holds of each of two numbers holds of the larger one
 pub of-max : (P : ℕ → Type 0) {a b : ℕ} → P a → P b → P (max a b)
@@ -20,6 +20,11 @@ of-max P {a} {b} p q = go (leb a b) refl
     go false e = let below : b ≤ a = omega (arith, leb-false a b e) in rw (max-eq-left below) p
 
 module _ {A : Type 0} where
+  -- a row has as many values as it has numbers
+  pub length-row : (f : ℕ → A) (m n : ℕ) → length (map f (count m n)) ≡ n
+  length-row f m zero = refl
+  length-row f m (suc n) = ap suc (length-row f (m + 1) n)
+
   -- a function's value at a number of the row is looked up at its place
   pub getD-count : (f : ℕ → A) (m n i : ℕ) (d : A) → i < n → getD (map f (count m n)) i d ≡ f (m + i)
   getD-count f m zero i d h = absurd (omega arith)
@@ -38,8 +43,3 @@ module _ {A : Type 0} where
       go m zero k e = p
       go m (suc n) zero e = let same : m ≡ i = omega arith in rw same q
       go m (suc n) (suc k) e = go (m + 1) n k (omega arith)
-
-  -- a property of all a function gives holds of every element of its row
-  pub every-map : {B : Type 0} (P : B → Type 0) (f : A → B) (xs : List A) → Every (λ x. P (f x)) xs → Every P (map f xs)
-  every-map P f [] h = tt
-  every-map P f (x ∷ xs) h = (h .0, every-map P f xs (h .1))

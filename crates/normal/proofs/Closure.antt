@@ -1,18 +1,18 @@
--- One round of the closing of gaps, over any table of numbers f in which 0 says that no chain leads from i to j.
--- f is closed at a job m when no two chains that join at m make more than f has. The round through k closes f at k, and keeps it closed wherever it was,
--- since of four chains joined at m, k and m again the middle two would be a ring at k. `joined` is a product over `max`: it is monotone and associative.
+-- One round of the closing of gaps, over any numbers f i j of which 0 says that no chain leads from i to j.
+-- f is closed at a job m when no two chains that join at m make more than f has. The round through k closes f at k, and keeps it closed wherever it was: of two chains
+-- that join at m one may have gone through k, but not both, as between their two visits lies a ring at k. What it takes is that joining is monotone and associative.
 use Prim.Native.Nat.{ℕ, zero, suc, _+_, _≤_, _<_, max}
 use native.Mathlib.Nat.{max-zero}
 use native.Mathlib.Omega.{arith}
-use mathlib.Core.Path.{_≡_, refl, sym, ap, _∙_}
+use mathlib.Core.Path.{_≡_, refl, sym, _∙_}
 use Rattle.laws.proofs.Rows.{of-max}
 use Rattle.normal.specs.Gaps.{joined}
 
--- a table of numbers by two job numbers
+-- a number for every two jobs
 abbrev pub Cells : Type 0
 Cells = ℕ → ℕ → ℕ
 
--- nothing joins with no chain
+-- with no chain nothing joins
 pub joined-zero : (a : ℕ) → joined a 0 ≡ 0
 joined-zero zero = refl
 joined-zero (suc a) = refl
@@ -44,7 +44,7 @@ longer-joined a b c d e ac ad bc bd = of-max (λ x. joined x (max c d) ≤ e) {a
 abbrev pub Closed : Cells → ℕ → Type 0
 Closed f m = (i j : ℕ) → joined (f i m) (f m j) ≤ f i j
 
--- every chain that f has is one of some kind, with that sum
+-- where f is above 0, P holds of the two jobs and that sum
 abbrev pub Attains : (ℕ → ℕ → ℕ → Type 0) → Cells → Type 0
 Attains P f = (i j g : ℕ) → f i j ≡ suc g → P i j (suc g)
 
@@ -57,7 +57,7 @@ module _ (k : ℕ) (f g : Cells) (passed : Passed k f g) where
   pub grows : (i j : ℕ) → f i j ≤ g i j
   grows i j = omega (arith, passed i j)
 
-  -- chains that join are chains, so each new one is one too
+  -- a property that passes on from two chains to the one they join to holds after the round too
   pub attains : (P : ℕ → ℕ → ℕ → Type 0) → ((i m j a b : ℕ) → P i m a → P m j b → P i j (a + b)) → Attains P f → Attains P g
   attains P join h i j n e = of-max (λ x. x ≡ suc n → P i j (suc n)) (h i j n) (go (f i k) (f k j) refl refl) (sym (passed i j) ∙ e)
     where
@@ -66,15 +66,15 @@ module _ (k : ℕ) (f g : Cells) (passed : Passed k f g) where
       go (suc a) zero p q e = absurd (omega arith)
       go (suc a) (suc b) p q e = rw e at (join i k j (suc a) (suc b) (h i k a p) (h k j b q))
 
-  -- where no ring goes through k, the round leaves k's row and column
-  module _ (open-ended : f k k ≡ 0) where
+  -- where no ring goes through k, the round leaves k's row and column as they are
+  module _ (none : f k k ≡ 0) where
     row-stays : (j : ℕ) → g k j ≡ f k j
-    row-stays j = passed k j ∙ rw open-ended (max-zero (f k j))
+    row-stays j = passed k j ∙ rw none (max-zero (f k j))
 
     column-stays : (i : ℕ) → g i k ≡ f i k
-    column-stays i = passed i k ∙ rw (open-ended, joined-zero) (max-zero (f i k))
+    column-stays i = passed i k ∙ rw (none, joined-zero) (max-zero (f i k))
 
-    -- the round closes the table at k
+    -- the round closes f at k
     pub closes : Closed g k
     closes i j = rw (row-stays j, column-stays i) (omega (arith, passed i j))
 
@@ -89,4 +89,4 @@ module _ (k : ℕ) (f g : Cells) (passed : Passed k f g) where
         from-k = rw (joined-assoc (f i k) (f k m) (f m j)) (joined-le (f i k) (joined (f k m) (f m j)) (f i k) _ (omega arith) (closed k j))
 
         twice : joined (joined (f i k) (f k m)) (joined (f m k) (f k j)) ≡ 0
-        twice = let none : joined (f k m) (f m k) ≡ 0 = omega (arith, closed k k) in rw (joined-assoc (f i k) (f k m) _, ← joined-assoc (f k m) (f m k) (f k j), none) (joined-zero (f i k))
+        twice = let between : joined (f k m) (f m k) ≡ 0 = omega (arith, closed k k) in rw (joined-assoc (f i k) (f k m) _, ← joined-assoc (f k m) (f m k) (f k j), between) (joined-zero (f i k))

@@ -1,19 +1,37 @@
 -- The rounds over squares with rows of one length: each cell after a round is what one round of the closing makes of the cells before it.
 -- So, by induction on the rounds, cells only grow, and if none of the jobs gone through has a ring at the end, the square is closed at each of them.
-use Prim.Native.Nat.{ℕ, zero, suc, _+_, _≤_, max}
-use native.Mathlib.Nat.{le-trans, le-refl}
+use Prim.Native.Nat.{ℕ, zero, suc, _+_, _≤_, _<_, max}
+use native.Mathlib.Nat.{le-trans}
 use native.Mathlib.Omega.{arith}
 use mathlib.Core.Path.{_≡_, refl, ap, _∙_}
 use mathlib.Core.List.{List, [], _∷_, map, List·Memᴰ, List·Memᴰ·head, List·Memᴰ·tail}
 use lib.ListN.{length, getD}
-use Rattle.laws.specs.Lists.{Every}
-use Rattle.laws.proofs.Lists.{every-getD, every-weaker}
+use Rattle.laws.specs.Lists.{count, Every}
+use Rattle.laws.proofs.Lists.{every-getD, every-weaker, every-count}
+use Rattle.laws.proofs.Rows.{length-row, getD-row, of-row}
 use Rattle.normal.specs.Gaps.{Square, cell, joined, widened, throughRow, round, rounds}
-use Rattle.normal.proofs.Closure.{joined-zero, Closed, Attains, Passed, grows, attains, closes, stays-closed}
+use Rattle.normal.proofs.Closure.{Cells, joined-zero, Closed, Attains, Passed, grows, attains, closes, stays-closed}
 
 -- every row of the square has n cells
 abbrev pub Wide : ℕ → Square → Type 0
 Wide n = Every (λ row. length row ≡ n)
+
+module _ (n : ℕ) (f : Cells) where
+  -- the square of n rows of n cells that is made of numbers
+  abbrev pub drawn : Square
+  drawn = map (λ i. map (f i) (count 0 n)) (count 0 n)
+
+  -- its rows have n cells
+  pub drawn-wide : Wide n drawn
+  drawn-wide = every-count (λ (row : List ℕ). length row ≡ n) (λ i. map (f i) (count 0 n)) 0 n (λ i h. length-row (f i) 0 n)
+
+  -- and its cells are those numbers
+  pub drawn-cell : (i j : ℕ) → i < n → j < n → cell drawn i j ≡ f i j
+  drawn-cell i j h k = ap (λ row. getD row j 0) (getD-row (λ i. map (f i) (count 0 n)) n i [] h) ∙ getD-row (f i) n j 0 k
+
+  -- what holds of 0 and of the number holds of the cell
+  pub of-drawn : (P : ℕ → Type 0) (i j : ℕ) → P 0 → P (f i j) → P (cell drawn i j)
+  of-drawn P i j p q = of-row (λ row. P (getD row j 0)) (λ i. map (f i) (count 0 n)) n i [] p (of-row P (f i) n j 0 p q)
 
 -- a row keeps its length
 length-widened : (a : ℕ) (row through : List ℕ) → length (widened a row through) ≡ length row
@@ -57,11 +75,12 @@ NoRing ks square = (k : ℕ) → List·Memᴰ k ks → cell (rounds ks square) k
 
 module _ (n : ℕ) where
   -- a round over a square is a round of the closing over its cells
-  round-passes : (k : ℕ) (square : Square) → Wide n square → Passed k (cell square) (cell (round k square))
+  pub round-passes : (k : ℕ) (square : Square) → Wide n square → Passed k (cell square) (cell (round k square))
   unfolding round
   round-passes k square wide = rows-cell n k (getD square k []) (every-getD (λ row. length row ≤ n) square [] (omega arith) (every-weaker (λ row. length row ≡ n) (λ row. length row ≤ n) (λ row e. omega arith) square wide) k) square wide
 
-  round-wide : (k : ℕ) (square : Square) → Wide n square → Wide n (round k square)
+  -- and leaves rows of the same length
+  pub round-wide : (k : ℕ) (square : Square) → Wide n square → Wide n (round k square)
   unfolding round
   round-wide k square wide = rows-wide n k (getD square k []) square wide
 
@@ -71,7 +90,7 @@ module _ (n : ℕ) where
   rounds-grow [] square wide i j = omega arith
   rounds-grow (k ∷ ks) square wide i j = le-trans (grows k _ _ (round-passes k square wide) i j) (rounds-grow ks (round k square) (round-wide k square wide) i j)
 
-  -- a square whose cells are chains has chains for its cells after the rounds
+  -- a property that passes on from two chains to the one they join to holds after the rounds, if it did before
   pub rounds-attain : (P : ℕ → ℕ → ℕ → Type 0) → ((i m j a b : ℕ) → P i m a → P m j b → P i j (a + b)) → (ks : List ℕ) (square : Square) → Wide n square → Attains P (cell square) → Attains P (cell (rounds ks square))
   unfolding rounds
   rounds-attain P join [] square wide h = h
