@@ -8,16 +8,19 @@ use mathlib.Core.Logic.{Iff·symm, Iff·trans}
 use mathlib.Core.List.{List, List·Memᴰ}
 use borrow.Author.Tests.{ltb-true, ltb-false}
 use lib.Dec.{ltb}
+use Rattle.laws.proofs.Members.{not-true-false}
 use Rattle.records.specs.Record.{link}
 use Rattle.records.specs.declared.Link.{Link}
 use Rattle.records.specs.declared.JobRecord.{JobRecord}
 use Rattle.records.specs.declared.JobRecord.the-variants.{L}
 use Rattle.jobs.specs.Judge.{Sound}
 use Rattle.jobs.specs.Jobs.{numbers, cost}
-use Rattle.jobs.specs.Starts.{Permitted, SameJobs, SameStarts}
+use Rattle.jobs.specs.Starts.{Permitted, Ring, SameJobs, SameStarts}
 use Rattle.jobs.proofs.Sound.{link-known, cost-by-number, PermittedByNumber, permitted-by-number}
+use Rattle.normal.specs.Gaps.{gaps, ringIn}
 use Rattle.normal.specs.Normal.{normalForm}
-use Rattle.normal.proofs.WindowsEarliest.{Normalisable, gap, earliest, latest, chain-known, chain-grows, gap-chain, link-gap, release-earliest, earliest-bounds}
+use Rattle.normal.proofs.Chains.{chain-positive, ring-shown, gaps-right}
+use Rattle.normal.proofs.WindowsEarliest.{Normalisable, gapsRight, gap, earliest, latest, chain-cost, chain-grows, gap-chain, link-gap, release-earliest, earliest-bounds, none-permitted, earliest-permitted}
 use Rattle.normal.proofs.WindowsLatest.{latest-last, last-ends, latest-bounds}
 use Rattle.normal.proofs.NormalRecords.{Written, form-link}
 use Rattle.normal.proofs.NormalSound.{form-sound, form-numbers, form-values}
@@ -27,8 +30,8 @@ module _ {table : List JobRecord} (normalisable : Normalisable table) where
   kept-links : (start : ℕ → ℕ) → Permitted table start → (l : Link) → List·Memᴰ (L l) (normalForm table) → start (l .from) + cost (normalForm table) (l .from) + l .latency ≤ start (l .to)
   kept-links start h l m =
       let r = form-link table l .0 m in
-      let chain = gap-chain (normalisable .right) (r .0) (r .1) (r .2 .chained) in
-      rw (r .3, form-values normalisable (r .0) (r .2 .from) .0) (omega (arith, chain-known (normalisable .sound) chain .2, chain-grows (normalisable .sound) start h chain))
+      let chain = gap-chain (gapsRight normalisable) (r .0) (r .1) (r .2 .chained) in
+      rw (r .3, form-values normalisable (r .0) (r .2 .from) .0) (omega (arith, chain-cost (normalisable .sound) chain, chain-grows (normalisable .sound) start h chain))
 
   -- starts that the normal form permits lie in the windows
   kept-windows : (start : ℕ → ℕ) → PermittedByNumber (normalForm table) start → (n : ℕ) → List·Memᴰ n (numbers table) → (earliest table n ≤ start n) × (start n ≤ latest table n)
@@ -56,7 +59,7 @@ module _ {table : List JobRecord} (normalisable : Normalisable table) where
       there h = record {
         windows = λ n m.
             let known : List·Memᴰ n (numbers table) = rw (form-numbers normalisable) at m in
-            omega (arith, form-values normalisable n known, earliest-bounds (normalisable .sound) (normalisable .right) start h n known, latest-bounds normalisable start h n known);
+            omega (arith, form-values normalisable n known, earliest-bounds (normalisable .sound) (gapsRight normalisable) start h n known, latest-bounds normalisable start h n known);
         links = λ i j l m. kept-links start h (link i j l) m;
       }
 
@@ -64,7 +67,7 @@ module _ {table : List JobRecord} (normalisable : Normalisable table) where
       back h = record {
         windows = λ n m. omega (arith, kept-windows start h n m, release-earliest table n, latest-last table n, last-ends normalisable n m);
         links = λ i j l m.
-            let g = link-gap (normalisable .sound) (normalisable .right) i j l m in
+            let g = link-gap (normalisable .sound) (gapsRight normalisable) i j l m in
             let k = link-known table (normalisable .sound) (link i j l) m in
             omega (arith, kept-gaps start h i j (k .0) (k .1) (g .0));
       }
@@ -78,3 +81,15 @@ module _ {table : List JobRecord} (normalisable : Normalisable table) where
 
       back : List·Memᴰ n (numbers (normalForm table)) × (cost (normalForm table) n ≡ c) → List·Memᴰ n (numbers table) × (cost table n ≡ c)
       back h = let known : List·Memᴰ n (numbers table) = rw (form-numbers normalisable) at (h .0) in (known, sym (form-values normalisable n known .0) ∙ h .1)
+
+  -- it has no ring, and some starts are permitted, so that normalising does not refuse it
+  pub form-normalisable : Normalisable (normalForm table)
+  unfolding Ring
+  form-normalisable = record { sound = form-sound normalisable; ringless = ringless; starts = not-true-false _ (λ e. none-permitted (form-sound normalisable) (gaps-right (form-sound normalisable) ringless) e (earliest table) permitted) }
+    where
+      permitted : Permitted (normalForm table) (earliest table)
+      permitted = form-starts (earliest table) .0 (earliest-permitted normalisable)
+
+      ringless : ringIn (gaps (normalForm table)) ≡ false
+      ringless = not-true-false _ (λ e. let ring = ring-shown (form-sound normalisable) e in
+          omega (arith, chain-positive (normalForm table) (form-sound normalisable) (ring .2), chain-grows (form-sound normalisable) (earliest table) permitted (ring .2)))

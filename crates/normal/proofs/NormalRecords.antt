@@ -1,21 +1,23 @@
 -- The records of the normal form, said by number: a J record for each job number, and an L record for each pair that is written.
 -- The windows are looked up in lists of 48 numbers, where each number stands at its own place.
-use Prim.Native.Nat.{ℕ, zero, suc, _+_, _-_, _<_}
+use Prim.Native.Nat.{ℕ, zero, suc, _+_, _-_, _*_, _<_, _≤_}
 use native.Mathlib.Omega.{arith}
 use mathlib.Core.Path.{_≡_, refl, sym, ap₂, _∙_}
+use mathlib.Core.Bool.{Bool, true, false}
 use mathlib.Core.Logic.{_↔_, Iff·trans}
 use mathlib.Core.List.{List, [], map, map-map, List·Memᴰ, List·Memᴰ·not-nil, Memᴰ·map, Memᴰ·of-map, Memᴰ·cast}
 use borrow.Author.Tests.{ltb-true, lt-ltb}
 use lib.Dec.{ltb}
-use lib.ListN.{getD}
-use Rattle.laws.specs.Lists.{only, flat}
-use Rattle.laws.proofs.Members.{only-member, flat-member, map-same, flat-same}
+use lib.ListN.{length, getD, length-append, length-map}
+use Rattle.laws.specs.Lists.{count, only, any, flat}
+use Rattle.laws.proofs.Members.{keep-length, only-member, flat-member, flat-length, map-same, flat-same}
 use Rattle.laws.proofs.Rows.{getD-row}
 use Rattle.records.specs.Record.{job, link}
 use Rattle.records.specs.declared.Job.{Job}
 use Rattle.records.specs.declared.Link.{Link}
 use Rattle.records.specs.declared.JobRecord.{JobRecord}
 use Rattle.records.specs.declared.JobRecord.the-variants.{J, L}
+use Rattle.jobs.specs.Judge.{isJob}
 use Rattle.jobs.specs.Jobs.{numbers, cost, jobAt, jobsInOrder}
 use Rattle.jobs.proofs.Sound.{numbers-below}
 use Rattle.jobs.proofs.JobsFirst.{jobsFirst, job-of, link-of}
@@ -82,6 +84,15 @@ linkIf-member c l e i j (suc g) k = (
   λ h. only-member (ltb e (suc g + l)) (link i j (suc g - c)) k .1 (lt-ltb e (suc g + l) (h .1), h .2),
 )
 
+-- a pair has at most one link
+linkIf-length : (c l e i j g : ℕ) → length (linkIf c l e i j g) ≤ 1
+linkIf-length c l e i j zero = omega arith
+linkIf-length c l e i j (suc g) = go (ltb e (suc g + l))
+  where
+    go : (t : Bool) → length (only t (link i j (suc g - c))) ≤ 1
+    go true = omega arith
+    go false = omega arith
+
 module _ (table : List JobRecord) where
   -- the normal form's links are those of the pairs written, with latency gap - cost
   pub links-written : (l : Link) → List·Memᴰ l (formLinks table) ↔ ((i : ℕ) × (j : ℕ) × Written table i j × (l ≡ link i j (gap table i j - cost table i)))
@@ -106,3 +117,19 @@ module _ (table : List JobRecord) where
   -- its L records are those of the pairs written
   pub form-link : (l : Link) → List·Memᴰ (L l) (normalForm table) ↔ ((i : ℕ) × (j : ℕ) × Written table i j × (l ≡ link i j (gap table i j - cost table i)))
   form-link l = rw form-records (Iff·trans (link-of (formJobs table) (formLinks table) l) (links-written l))
+
+  -- it has at most 48 J records and 48 * 48 L records, far fewer than a table may have
+  pub form-length : length (normalForm table) ≤ 48 + 48 * 48
+  unfolding numbers
+  form-length =
+      rw form-records
+      (omega (arith, length-append (map J (formJobs table)) (map L (formLinks table)), length-map (formJobs table) J, length-map (formLinks table) L, length-map (numbers table) (formJob table), jobs, links))
+    where
+      jobs : length (numbers table) ≤ 48
+      jobs = keep-length (λ n. any (isJob n) table) (count 0 48)
+
+      row : (i : ℕ) → length (flat (formLink table i) (numbers table)) ≤ 48
+      row i = omega (arith, flat-length (formLink table i) 1 (numbers table) (λ j. linkIf-length _ _ _ i j (gap table i j)), jobs)
+
+      links : length (formLinks table) ≤ 48 * 48
+      links = omega (arith, flat-length (λ i. flat (formLink table i) (numbers table)) 48 (numbers table) row, jobs)

@@ -17,7 +17,7 @@ use Rattle.jobs.specs.Jobs.{numbers, cost, release, deadline}
 use Rattle.jobs.proofs.Sound.{numbers-member, numbers-rising, numbers-below, any-job, job-any, job-known, link-known, cost-positive, deadline-limit}
 use Rattle.jobs.proofs.JobsFirst.{jobs-first-sound}
 use Rattle.normal.specs.Normal.{normalForm}
-use Rattle.normal.proofs.WindowsEarliest.{Normalisable, gap, earliest, latest, earliest-grows}
+use Rattle.normal.proofs.WindowsEarliest.{Normalisable, gapsRight, gap, earliest, latest, earliest-grows}
 use Rattle.normal.proofs.WindowsLatest.{latest-last, last-ends, earliest-latest, no-loop}
 use Rattle.normal.proofs.NormalRecords.{formJob, formJobs, formLinks, form-records, Written, links-written, form-job}
 
@@ -32,7 +32,7 @@ module _ {table : List JobRecord} (normalisable : Normalisable table) where
 
   -- and so is the gap of a pair
   gap-limit : (i j : ℕ) → Written table i j → gap table i j ≤ 48000
-  gap-limit i j w = omega (arith, earliest-grows (normalisable .sound) (normalisable .right) i j (w .chained), earliest-latest normalisable j (w .to), ends-limit j (w .to))
+  gap-limit i j w = omega (arith, earliest-grows (normalisable .sound) (gapsRight normalisable) i j (w .chained), earliest-latest normalisable j (w .to), ends-limit j (w .to))
 
   -- whose jobs are not one
   distinct : (i j : ℕ) → Written table i j → i ≡ j → ⊥

@@ -2,7 +2,6 @@
 -- Along a chain permitted starts grow by its sum, so that each release bounds the starts behind it from below;
 -- the least times that keep those bounds keep the links, as gaps that follow one another join, and are permitted where they keep the deadlines.
 use Prim.Native.Nat.{ℕ, zero, suc, _+_, _-_, _<_, _≤_}
-use native.Mathlib.Nat.{add-assoc}
 use native.Mathlib.Omega.{arith}
 use mathlib.Core.Path.{_≡_, refl, ap, _∙_}
 use mathlib.Core.Bool.{true, false}
@@ -17,29 +16,31 @@ use Rattle.records.specs.declared.JobRecord.the-variants.{L}
 use Rattle.jobs.specs.Judge.{Sound}
 use Rattle.jobs.specs.Jobs.{numbers, cost, release, deadline, jobAt, jobsInOrder}
 use Rattle.jobs.specs.Starts.{Permitted, Chain, one, follow, Earliest}
-use Rattle.jobs.proofs.Sound.{cost-positive, link-known, PermittedByNumber, permitted-by-number}
-use Rattle.normal.specs.Gaps.{cell, gaps}
+use Rattle.jobs.proofs.Sound.{link-known, PermittedByNumber, permitted-by-number}
+use Rattle.normal.specs.Gaps.{cell, gaps, ringIn}
 use Rattle.normal.specs.Windows.{after, earliestOf, latestOf, noStarts}
-use Rattle.normal.proofs.Chains.{GapsRight}
+use Rattle.normal.proofs.Chains.{GapsRight, join, chain-from, chain-positive, gaps-right}
 
--- what is known of a table that normalising does not refuse: it is within the limits, its square holds the gaps, and some starts are permitted
+-- a table that normalising does not refuse by 3 to 8
 pub record Normalisable (table : List JobRecord) : Type 0 where
   pub sound : Sound table
-  pub right : GapsRight table
+  pub ringless : ringIn (gaps table) ≡ false
   pub starts : noStarts table (gaps table) ≡ false
 
--- chains that follow one another are one chain
-join : (table : List JobRecord) {i m j a b : ℕ} → Chain table i m a → Chain table m j b → Chain table i j (a + b)
-join table (one l) d = follow l d
-join table (follow l c) d = rw add-assoc (follow l (join table c d))
+-- its square of gaps is right
+pub gapsRight : {table : List JobRecord} → Normalisable table → GapsRight table
+gapsRight normalisable = gaps-right (normalisable .sound) (normalisable .ringless)
 
--- a chain leads from a job of the table to another, and its sum is at least the first one's cost, which is above 0
-pub chain-known : {table : List JobRecord} → Sound table → {i j w : ℕ} → Chain table i j w
-    → List·Memᴰ i (numbers table) × List·Memᴰ j (numbers table) × (cost table i ≤ w) × (0 < w)
-chain-known {table} sound (one {i = i} l) = let k = link-known table sound _ l in (k .0, k .1, omega arith, omega (arith, cost-positive table sound i (k .0)))
-chain-known {table} sound (follow {i = i} l c) =
-    let k = link-known table sound _ l in
-    (k .0, chain-known sound c .1, omega arith, omega (arith, cost-positive table sound i (k .0)))
+module _ {table : List JobRecord} (sound : Sound table) where
+  -- a chain ends at a job of the table
+  pub chain-to : {i j w : ℕ} → Chain table i j w → List·Memᴰ j (numbers table)
+  chain-to (one l) = link-known table sound _ l .1
+  chain-to (follow l c) = chain-to c
+
+  -- and its sum is at least its first job's cost
+  pub chain-cost : {i j w : ℕ} → Chain table i j w → cost table i ≤ w
+  chain-cost (one l) = omega arith
+  chain-cost (follow l c) = omega arith
 
 -- along a chain permitted starts grow by its sum
 pub chain-grows : {table : List JobRecord} → Sound table → (start : ℕ → ℕ) → Permitted table start → {i j w : ℕ} → Chain table i j w → start i + w ≤ start j
@@ -119,7 +120,7 @@ module _ {table : List JobRecord} (sound : Sound table) (right : GapsRight table
   -- along a gap the earliest starts grow by it
   pub earliest-grows : (i j : ℕ) → 0 < gap table i j → earliest table i + gap table i j ≤ earliest table j
   earliest-grows i j h =
-      let first : release table i + gap table i j ≤ earliest table j = gap-earliest table i j (chain-known sound (gap-chain right i j h) .0) h in
+      let first : release table i + gap table i j ≤ earliest table j = gap-earliest table i j (chain-from table sound (gap-chain right i j h)) h in
       let all : earliest table i ≤ earliest table j - gap table i j = earliest-least table i (earliest table j - gap table i j) (omega arith) further in
       omega arith
     where
@@ -128,7 +129,7 @@ module _ {table : List JobRecord} (sound : Sound table) (right : GapsRight table
 
   -- a link weighs at most the gap between its jobs
   pub link-gap : (i j l : ℕ) → List·Memᴰ (L (link i j l)) table → (0 < gap table i j) × (cost table i + l ≤ gap table i j)
-  link-gap i j l m = let b = gap-bounds right (one m) in let w = chain-known sound (one m) .3 in omega arith
+  link-gap i j l m = let b = gap-bounds right (one m) in let w = chain-positive table sound (one m) in omega arith
 
   -- permitted starts are at or after the earliest
   pub earliest-bounds : (start : ℕ → ℕ) → Permitted table start → (j : ℕ) → List·Memᴰ j (numbers table) → earliest table j ≤ start j
@@ -160,7 +161,7 @@ module _ {table : List JobRecord} (normalisable : Normalisable table) where
       permitted-by-number table (normalisable .sound) (earliest table) .1
       (record {
         windows = λ n m. (release-earliest table n, earliest-ends n m);
-        links = λ i j l m. let g = link-gap (normalisable .sound) (normalisable .right) i j l m in omega (arith, earliest-grows (normalisable .sound) (normalisable .right) i j (g .0));
+        links = λ i j l m. let g = link-gap (normalisable .sound) (gapsRight normalisable) i j l m in omega (arith, earliest-grows (normalisable .sound) (gapsRight normalisable) i j (g .0));
       })
 
   -- so `earliestOf` is the earliest permitted start
@@ -169,12 +170,12 @@ module _ {table : List JobRecord} (normalisable : Normalisable table) where
     start = earliest table;
     permitted = earliest-permitted;
     attained = refl;
-    bounds = λ other h. earliest-bounds (normalisable .sound) (normalisable .right) other h j m;
+    bounds = λ other h. earliest-bounds (normalisable .sound) (gapsRight normalisable) other h j m;
   }
 
 -- 8 is given exactly when nothing is permitted
-pub no-starts : {table : List JobRecord} → Sound table → GapsRight table → (noStarts table (gaps table) ≡ true) ↔ ((start : ℕ → ℕ) → Permitted table start → ⊥)
-no-starts {table} sound right = (
-  none-permitted sound right,
-  λ h. not-false-true _ (λ e. h (earliest table) (earliest-permitted (record { sound = sound; right = right; starts = e }))),
+pub no-starts : {table : List JobRecord} → Sound table → ringIn (gaps table) ≡ false → (noStarts table (gaps table) ≡ true) ↔ ((start : ℕ → ℕ) → Permitted table start → ⊥)
+no-starts {table} sound ringless = (
+  none-permitted sound (gaps-right sound ringless),
+  λ h. not-false-true _ (λ e. h (earliest table) (earliest-permitted (record { sound = sound; ringless = ringless; starts = e }))),
 )

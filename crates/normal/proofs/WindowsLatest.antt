@@ -17,7 +17,7 @@ use Rattle.jobs.specs.Jobs.{numbers, cost, deadline}
 use Rattle.jobs.specs.Starts.{Permitted, Latest}
 use Rattle.jobs.proofs.Sound.{permitted-by-number}
 use Rattle.normal.specs.Windows.{after, before, smallest, lastStart, latestOf}
-use Rattle.normal.proofs.WindowsEarliest.{Normalisable, gap, earliest, latest, chain-grows, gap-chain, gap-joins, chain-known, link-gap, after-gap, after-least, release-earliest, earliest-grows, earliest-ends}
+use Rattle.normal.proofs.WindowsEarliest.{Normalisable, gapsRight, gap, earliest, latest, chain-grows, gap-chain, gap-joins, chain-to, link-gap, after-gap, after-least, release-earliest, earliest-grows, earliest-ends}
 
 -- the smallest of a number and a list is at most the number, and at most each of the list
 smallest-bounds : (n : ℕ) (xs : List ℕ) → (smallest n xs ≤ n) × ((x : ℕ) → List·Memᴰ x xs → smallest n xs ≤ x)
@@ -91,7 +91,7 @@ module _ {table : List JobRecord} (normalisable : Normalisable table) where
   earliest-last n m = omega (arith, earliest-ends normalisable n m, last-ends n m)
 
   gap-last : (j k : ℕ) → List·Memᴰ k (numbers table) → 0 < gap table j k → earliest table j + gap table j k ≤ lastStart table k
-  gap-last j k m h = omega (arith, earliest-grows (normalisable .sound) (normalisable .right) j k h, earliest-last k m)
+  gap-last j k m h = omega (arith, earliest-grows (normalisable .sound) (gapsRight normalisable) j k h, earliest-last k m)
 
   -- a job's earliest start is by its latest
   pub earliest-latest : (n : ℕ) → List·Memᴰ n (numbers table) → earliest table n ≤ latest table n
@@ -102,16 +102,16 @@ module _ {table : List JobRecord} (normalisable : Normalisable table) where
   latest-grows i j h =
       latest-greatest table j (latest table i + gap table i j)
       (omega (arith, gap-latest table i j to h, gap-last i j to h))
-      (λ k m l. let joins = gap-joins (normalisable .right) i j k h l in let over : 0 < gap table i k = omega arith in omega (arith, gap-latest table i k m over, gap-last i k m over))
+      (λ k m l. let joins = gap-joins (gapsRight normalisable) i j k h l in let over : 0 < gap table i k = omega arith in omega (arith, gap-latest table i k m over, gap-last i k m over))
     where
       to : List·Memᴰ j (numbers table)
-      to = chain-known (normalisable .sound) (gap-chain (normalisable .right) i j h) .1
+      to = chain-to (normalisable .sound) (gap-chain (gapsRight normalisable) i j h)
 
   -- permitted starts are at or before the latest
   pub latest-bounds : (start : ℕ → ℕ) → Permitted table start → (j : ℕ) → List·Memᴰ j (numbers table) → start j ≤ latest table j
   latest-bounds start h j m =
       latest-greatest table j (start j) (by-last j m)
-      (λ k n l. omega (arith, by-last k n, chain-grows (normalisable .sound) start h (gap-chain (normalisable .right) j k l)))
+      (λ k n l. omega (arith, by-last k n, chain-grows (normalisable .sound) start h (gap-chain (gapsRight normalisable) j k l)))
     where
       by-last : (n : ℕ) → List·Memᴰ n (numbers table) → start n ≤ lastStart table n
       by-last n m = omega (arith, permitted-by-number table (normalisable .sound) start .0 h .windows n m .1, last-ends n m)
@@ -122,7 +122,7 @@ module _ {table : List JobRecord} (normalisable : Normalisable table) where
     where
       go : (g : ℕ) → gap table i i ≡ g → gap table i i ≡ 0
       go zero e = e
-      go (suc g) e = absurd (omega (arith, earliest-grows (normalisable .sound) (normalisable .right) i i (omega arith)))
+      go (suc g) e = absurd (omega (arith, earliest-grows (normalisable .sound) (gapsRight normalisable) i i (omega arith)))
 
   module _ (i : ℕ) (known : List·Memᴰ i (numbers table)) where
     -- what job i pushes on is by the latest start
@@ -146,14 +146,14 @@ module _ {table : List JobRecord} (normalisable : Normalisable table) where
     pushed-link k m l n = go (eqb i k) refl
       where
         linked : (0 < gap table k m) × (cost table k + l ≤ gap table k m)
-        linked = link-gap (normalisable .sound) (normalisable .right) k m l n
+        linked = link-gap (normalisable .sound) (gapsRight normalisable) k m l n
 
         further : 0 < gap table i k → latest table i + gap table i k ≤ delayed table i m - (cost table k + l)
-        further h = let joins = gap-joins (normalisable .right) i k m h (linked .0) in omega (arith, pushed-gap m (omega arith), linked)
+        further h = let joins = gap-joins (gapsRight normalisable) i k m h (linked .0) in omega (arith, pushed-gap m (omega arith), linked)
 
         go : (t : Bool) → eqb i k ≡ t → cond t (latest table i) (after (latest table i) (gap table i k)) + (cost table k + l) ≤ delayed table i m
         go true e = let same : i ≡ k = eqb-true i k e in let at : (0 < gap table i m) × (cost table k + l ≤ gap table i m) = rw same linked in omega (arith, pushed-gap m (at .0))
-        go false e = omega (arith, after-least (latest table i) (gap table i k) (delayed table i m - (cost table k + l)) further, earliest-grows (normalisable .sound) (normalisable .right) k m (linked .0), linked)
+        go false e = omega (arith, after-least (latest table i) (gap table i k) (delayed table i m - (cost table k + l)) further, earliest-grows (normalisable .sound) (gapsRight normalisable) k m (linked .0), linked)
 
     -- the delayed starts are by the latest
     delayed-latest : (k : ℕ) → List·Memᴰ k (numbers table) → delayed table i k ≤ latest table k
@@ -166,8 +166,8 @@ module _ {table : List JobRecord} (normalisable : Normalisable table) where
         (record {
           windows = λ n m. omega (arith, release-earliest table n, delayed-latest n m, latest-last table n, last-ends n m);
           links = λ k m l n.
-              let linked = link-gap (normalisable .sound) (normalisable .right) k m l n in
-              omega (arith, pushed-link k m l n, earliest-grows (normalisable .sound) (normalisable .right) k m (linked .0));
+              let linked = link-gap (normalisable .sound) (gapsRight normalisable) k m l n in
+              omega (arith, pushed-link k m l n, earliest-grows (normalisable .sound) (gapsRight normalisable) k m (linked .0));
         })
 
     -- job i itself is at its latest
