@@ -9,3 +9,4 @@ pub mod WindowsLatest
 pub mod NormalRecords
 pub mod NormalSound
 pub mod NormalPermits
+pub mod Canonical

@@ -2,19 +2,18 @@
 -- A gap is at most the time between an earliest start and a deadline, which bounds latencies; a job with a gap to itself would start after itself.
 use Prim.Native.Nat.{ℕ, _+_, _-_, _<_, _≤_}
 use native.Mathlib.Omega.{arith}
-use mathlib.Core.Path.{_≡_, refl, ap, _∙_}
-use mathlib.Core.Bool.{true}
-use mathlib.Core.List.{List, map, map-map, map-id, List·Memᴰ, Memᴰ·of-map}
-use Rattle.laws.specs.Lists.{count, any, Every}
-use Rattle.laws.proofs.Members.{same-test, count-member, keep-same, member-every}
+use mathlib.Core.Path.{_≡_, refl, sym, ap, _∙_}
+use mathlib.Core.List.{List, map, map-map, map-id, List·Memᴰ, Memᴰ·cast, Memᴰ·of-map}
+use Rattle.laws.specs.Lists.{Every}
+use Rattle.laws.proofs.Members.{member-every}
 use Rattle.records.specs.Record.{JobFits}
 use Rattle.records.specs.declared.Job.{Job}
 use Rattle.records.specs.declared.Link.{Link}
 use Rattle.records.specs.declared.JobRecord.{JobRecord}
 use Rattle.records.specs.declared.JobRecord.the-variants.{J, L}
-use Rattle.jobs.specs.Judge.{isJob, Sound}
+use Rattle.jobs.specs.Judge.{Sound}
 use Rattle.jobs.specs.Jobs.{numbers, cost, release, deadline}
-use Rattle.jobs.proofs.Sound.{numbers-member, numbers-rising, numbers-below, any-job, job-any, job-known, link-known, cost-positive, deadline-limit}
+use Rattle.jobs.proofs.Sound.{numbers-rising, numbers-below, numbers-same, number-known, job-known, link-known, cost-positive, deadline-limit}
 use Rattle.jobs.proofs.JobsFirst.{jobs-first-sound}
 use Rattle.normal.specs.Normal.{normalForm}
 use Rattle.normal.proofs.WindowsEarliest.{Normalisable, gapsRight, gap, earliest, latest, earliest-grows}
@@ -55,18 +54,16 @@ module _ {table : List JobRecord} (normalisable : Normalisable table) where
 
   -- it has the table's job numbers
   pub form-numbers : numbers (normalForm table) ≡ numbers table
-  unfolding numbers
-  form-numbers = keep-same (λ n. any (isJob n) (normalForm table)) (λ n. any (isJob n) table) (count 0 48) (λ n m. same-test _ _ (there n, back n (count-member 0 48 n .0 m)))
+  form-numbers = numbers-same (normalForm table) table (λ n. (there n, back n))
     where
-      there : (n : ℕ) → any (isJob n) (normalForm table) ≡ true → any (isJob n) table ≡ true
-      there n e =
-          let r = any-job (normalForm table) n e in
+      there : (n : ℕ) → List·Memᴰ n (numbers (normalForm table)) → List·Memᴰ n (numbers table)
+      there n m =
+          let r = number-known (normalForm table) n m in
           let k = form-job table (r .0) .0 (r .1) in
-          let same : k .0 ≡ n = ap (λ j. j .number) (k .2) ∙ r .2 in
-          rw same at (numbers-member table (k .0) .0 (k .1) .1)
+          Memᴰ·cast (sym (r .2) ∙ sym (ap (λ j. j .number) (k .2))) (k .1)
 
-      back : (n : ℕ) → (0 ≤ n) × (n < 0 + 48) → any (isJob n) table ≡ true → any (isJob n) (normalForm table) ≡ true
-      back n h e = job-any (form-job table (formJob table n) .1 (n, numbers-member table n .1 (omega arith, e), refl))
+      back : (n : ℕ) → List·Memᴰ n (numbers table) → List·Memᴰ n (numbers (normalForm table))
+      back n m = job-known (normalForm table) form-sound (formJob table n) (form-job table (formJob table n) .1 (n, m, refl)) .0
 
   -- and by number the table's costs, and the windows in place of releases and deadlines
   pub form-values : (n : ℕ) → List·Memᴰ n (numbers table)
