@@ -10,3 +10,4 @@ pub mod NormalRecords
 pub mod NormalSound
 pub mod NormalPermits
 pub mod Canonical
+pub mod CanonicalBytes
