@@ -20,7 +20,7 @@ pub refuse-passed : (n : ℕ) (t : Bool) (later given : ℕ) → (given ≡ n �
 refuse-passed n true later given other e = absurd (other (sym e))
 refuse-passed n false later given other e = (refl, e)
 
--- where there is no value, none was found
+-- where nothing was found there is no value
 pub found-none : {A : Type 0} (o : Option A) → found o ≡ false → o ≡ none
 found-none none e = refl
 found-none (some x) e = absurd (true-not-false refl e)

@@ -21,8 +21,8 @@ use Rattle.normal.specs.Windows.{after}
 use Rattle.normal.specs.Normal.{normalForm}
 use Rattle.normal.proofs.WindowsEarliest.{Normalisable, gapsRight, gap, earliest, latest, chain-grows, gap-chain, earliest-bounds, earliest-permitted}
 use Rattle.normal.proofs.WindowsLatest.{pushed, delayed, delayed-permitted, delayed-self, latest-bounds}
-use Rattle.normal.proofs.NormalRecords.{linkIf, formJob, formLink, form-records}
-use Rattle.normal.proofs.NormalPermits.{form-starts, form-jobs, form-normalisable}
+use Rattle.normal.proofs.NormalRecords.{linkIf, formJob, formLink, normal-records}
+use Rattle.normal.proofs.NormalPermits.{normal-permits, normal-jobs, normal-normalisable}
 
 -- what is pushed on beyond the latest start is pushed on by a gap
 pushed-over : (table : List JobRecord) (i j g : ℕ) → 0 < g → latest table i + g ≤ pushed table i j → g ≤ gap table i j
@@ -55,19 +55,19 @@ linkIf-same c l e i j a b f g = go (written-or-not l e a)
     go (inl w) = let up = f (w .0) (w .1) in let down = g (omega arith) (omega arith) in let same : a ≡ b = omega arith in ap (linkIf c l e i j) same
     go (inr n) = linkIf-none c l e i j a n ∙ sym (linkIf-none c l e i j b (λ h k. let down = g h k in n (omega arith) (omega arith)))
 
--- what one table has at most of what another has that permits no other starts
+-- of two tables that permit the same starts, the first
 module _ {t u : List JobRecord} (first : Normalisable t) (second : Normalisable u) (starts : SameStarts t u) where
-  -- its earliest starts are no later
-  earliest-least : (n : ℕ) → List·Memᴰ n (numbers t) → earliest t n ≤ earliest u n
-  earliest-least n m = earliest-bounds (first .sound) (gapsRight first) (earliest u) (starts (earliest u) .1 (earliest-permitted second)) n m
+  -- has no later earliest starts
+  earliest-no-later : (n : ℕ) → List·Memᴰ n (numbers t) → earliest t n ≤ earliest u n
+  earliest-no-later n m = earliest-bounds (first .sound) (gapsRight first) (earliest u) (starts (earliest u) .1 (earliest-permitted second)) n m
 
-  -- its latest starts are no earlier
-  latest-most : (n : ℕ) → List·Memᴰ n (numbers t) → List·Memᴰ n (numbers u) → latest u n ≤ latest t n
-  latest-most n m k = omega (arith, latest-bounds first (delayed u n) (starts (delayed u n) .1 (delayed-permitted second n k)) n m, delayed-self second n k)
+  -- has no earlier latest starts
+  latest-no-earlier : (n : ℕ) → List·Memᴰ n (numbers t) → List·Memᴰ n (numbers u) → latest u n ≤ latest t n
+  latest-no-earlier n m k = omega (arith, latest-bounds first (delayed u n) (starts (delayed u n) .1 (delayed-permitted second n k)) n m, delayed-self second n k)
 
-  -- a gap that it writes is no larger
-  gap-least : (i j : ℕ) → List·Memᴰ i (numbers u) → 0 < gap t i j → earliest u j < gap t i j + latest u i → gap t i j ≤ gap u i j
-  gap-least i j m chained over =
+  -- and writes no larger gaps
+  gap-no-larger : (i j : ℕ) → List·Memᴰ i (numbers u) → 0 < gap t i j → earliest u j < gap t i j + latest u i → gap t i j ≤ gap u i j
+  gap-no-larger i j m chained over =
       let grows = chain-grows (first .sound) (delayed u i) (starts (delayed u i) .1 (delayed-permitted second i m)) (gap-chain (gapsRight first) i j chained) in
       pushed-over u i j (gap t i j) chained (omega (arith, delayed-self second i m))
 
@@ -81,15 +81,16 @@ module _ {t u : List JobRecord} (first : Normalisable t) (second : Normalisable 
   number-cost : (n : ℕ) → List·Memᴰ n (numbers t) → List·Memᴰ n (numbers u) × (cost u n ≡ cost t n)
   number-cost n m = cost-by-number u (second .sound) n (cost t n) .0 (jobs n (cost t n) .0 (cost-by-number t (first .sound) n (cost t n) .1 (m, refl)))
 
+  -- so the job numbers are the same
   same-numbers : numbers t ≡ numbers u
   same-numbers = numbers-same t u (λ n. (λ m. number-cost n m .0, λ m. cost-by-number t (first .sound) n (cost u n) .0 (jobs n (cost u n) .1 (cost-by-number u (second .sound) n (cost u n) .1 (m, refl))) .0))
 
   -- the windows are the same
   same-earliest : (n : ℕ) → List·Memᴰ n (numbers t) → earliest t n ≡ earliest u n
-  same-earliest n m = omega (arith, earliest-least first second starts n m, earliest-least second first back n (number-cost n m .0))
+  same-earliest n m = omega (arith, earliest-no-later first second starts n m, earliest-no-later second first back n (number-cost n m .0))
 
   same-latest : (n : ℕ) → List·Memᴰ n (numbers t) → latest t n ≡ latest u n
-  same-latest n m = let k = number-cost n m .0 in omega (arith, latest-most first second starts n m k, latest-most second first back n k m)
+  same-latest n m = let k = number-cost n m .0 in omega (arith, latest-no-earlier first second starts n m k, latest-no-earlier second first back n k m)
 
   -- so the jobs of the normal form are the same
   same-job : (n : ℕ) → List·Memᴰ n (numbers t) → formJob t n ≡ formJob u n
@@ -99,29 +100,30 @@ module _ {t u : List JobRecord} (first : Normalisable t) (second : Normalisable 
   same-link : (i j : ℕ) → List·Memᴰ i (numbers t) → List·Memᴰ j (numbers t) → formLink t i j ≡ formLink u i j
   same-link i j m n =
       rw (same-earliest j n, same-latest i m, ← number-cost i m .1)
-      (linkIf-same (cost u i) (latest u i) (earliest u j) i j (gap t i j) (gap u i j) (gap-least first second starts i j (number-cost i m .0))
-      (λ h over. gap-least second first back i j m h (rw (same-earliest j n, same-latest i m) over)))
+      (linkIf-same (cost u i) (latest u i) (earliest u j) i j (gap t i j) (gap u i j) (gap-no-larger first second starts i j (number-cost i m .0))
+      (λ h over. gap-no-larger second first back i j m h (rw (same-earliest j n, same-latest i m) over)))
 
+  -- so the normal form is the same
   same-form : normalForm t ≡ normalForm u
   same-form =
-      form-records t
+      normal-records t
       ∙ ap₂ jobsFirst
       (map-same (formJob t) (formJob u) (numbers t) same-job ∙ ap (map (formJob u)) same-numbers)
       (flat-same _ _ (numbers t) (λ i m. flat-same (formLink t i) (formLink u i) (numbers t) (λ j n. same-link i j m n) ∙ ap (flat (formLink u i)) same-numbers) ∙ ap (flat (λ i. flat (formLink u i) (numbers u))) same-numbers)
-      ∙ sym (form-records u)
+      ∙ sym (normal-records u)
 
 -- two tables have one normal form exactly when they have the same job numbers with the same costs and permit the same starts
 pub canonical : {t u : List JobRecord} → Normalisable t → Normalisable u → (normalForm t ≡ normalForm u) ↔ (SameJobs t u × SameStarts t u)
 canonical {t} {u} first second = (
   λ e.
-      let jobs : SameJobs t (normalForm u) = rw e at (form-jobs first) in
-      let starts : SameStarts t (normalForm u) = rw e at (form-starts first) in
-      (λ n c. Iff·trans (jobs n c) (Iff·symm (form-jobs second n c)), λ start. Iff·trans (starts start) (Iff·symm (form-starts second start))),
+      let jobs : SameJobs t (normalForm u) = rw e at (normal-jobs first) in
+      let starts : SameStarts t (normalForm u) = rw e at (normal-permits first) in
+      (λ n c. Iff·trans (jobs n c) (Iff·symm (normal-jobs second n c)), λ start. Iff·trans (starts start) (Iff·symm (normal-permits second start))),
   λ h. same-form first second (h .0) (h .1),
 )
 
 -- the normal form of a normal form is itself
 pub idempotent : {table : List JobRecord} → Normalisable table → normalForm (normalForm table) ≡ normalForm table
 idempotent normalisable =
-    canonical (form-normalisable normalisable) normalisable .1
-    (λ n c. Iff·symm (form-jobs normalisable n c), λ start. Iff·symm (form-starts normalisable start))
+    canonical (normal-normalisable normalisable) normalisable .1
+    (λ n c. Iff·symm (normal-jobs normalisable n c), λ start. Iff·symm (normal-permits normalisable start))

@@ -23,9 +23,9 @@ use Rattle.normal.specs.Windows.{noStarts}
 use Rattle.normal.specs.Normal.{normalForm}
 use Rattle.normal.specs.Call.{startsNumber, normalBytes, normaliseNumber, normalise}
 use Rattle.normal.proofs.WindowsEarliest.{Normalisable}
-use Rattle.normal.proofs.NormalRecords.{form-length}
-use Rattle.normal.proofs.NormalSound.{form-fits}
-use Rattle.normal.proofs.NormalPermits.{form-normalisable}
+use Rattle.normal.proofs.NormalRecords.{normal-length}
+use Rattle.normal.proofs.NormalSound.{normal-fits}
+use Rattle.normal.proofs.NormalPermits.{normal-normalisable}
 use Rattle.normal.proofs.Canonical.{canonical, idempotent}
 
 -- bytes that normalising does not refuse by 1 to 8
@@ -59,25 +59,25 @@ module _ {bytes : List ℕ} (unrefused : Unrefused bytes) where
   -- the normal form's bytes decode to the normal form
   pub normal-table : jobTable (normalBytes bytes) ≡ normalForm (jobTable bytes)
   unfolding jobTable normalBytes
-  normal-table = jobTables .decode-encode (normalForm (jobTable bytes)) (form-fits (unrefused .normalisable))
+  normal-table = jobTables .decode-encode (normalForm (jobTable bytes)) (normal-fits (unrefused .normalisable))
 
   -- normalising does not refuse them by 1 to 8
   pub normal-unrefused : Unrefused (normalBytes bytes)
   unfolding normalBytes badLength
   normal-unrefused =
       record {
-        accepted = record { whole = whole; readable = jobTables .encode-readable (normalForm (jobTable bytes)) (form-fits (unrefused .normalisable)); sound = again .sound };
+        accepted = record { whole = whole; readable = jobTables .encode-readable (normalForm (jobTable bytes)) (normal-fits (unrefused .normalisable)); sound = again .sound };
         normalisable = again;
       }
     where
       again : Normalisable (jobTable (normalBytes bytes))
-      again = rw normal-table (form-normalisable (unrefused .normalisable))
+      again = rw normal-table (normal-normalisable (unrefused .normalisable))
 
       sized : length (normalBytes bytes) ≡ 12 * length (normalForm (jobTable bytes))
       sized = jobTables .encode-length (normalForm (jobTable bytes))
 
       whole : badLength (normalBytes bytes) ≡ false
-      whole = false-or (ap not (eq-eqb (length (normalBytes bytes) % 12) 0 (omega (arith, sized)))) (le-ltb 49152 (length (normalBytes bytes)) (omega (arith, sized, form-length (jobTable bytes))))
+      whole = false-or (ap not (eq-eqb (length (normalBytes bytes) % 12) 0 (omega (arith, sized)))) (le-ltb 49152 (length (normalBytes bytes)) (omega (arith, sized, normal-length (jobTable bytes))))
 
   -- and gives them back
   pub normal-again : normalBytes (normalBytes bytes) ≡ normalBytes bytes
