@@ -1,4 +1,6 @@
 -- What is proved of the words of `specs/`.
 pub mod Lists
+pub mod Counting
+pub mod Pasting
 pub mod Members
 pub mod Rows
