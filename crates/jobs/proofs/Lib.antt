@@ -3,4 +3,4 @@ pub mod Computes
 pub mod Cases
 pub mod Sound
 pub mod JobsFirst
-pub mod Accepted
+pub mod WellFormed

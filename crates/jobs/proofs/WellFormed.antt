@@ -1,4 +1,4 @@
--- The bytes of a job table of which none of 1 to 5 holds: what is known of them, and that a call then goes on to its later numbers.
+-- A job table's bytes are well formed when none of 1 to 5 holds: what is known of them, and that a call then goes on to its later numbers.
 -- A refusal that is not the number given does not hold, and the number given is what comes after it.
 use Prim.Native.Nat.{ℕ, _<_}
 use native.Mathlib.Omega.{arith}
@@ -25,21 +25,21 @@ pub found-none : {A : Type 0} (o : Option A) → found o ≡ false → o ≡ non
 found-none none e = refl
 found-none (some x) e = absurd (true-not-false refl e)
 
--- the bytes of a job table of which none of 1 to 5 holds
-pub record Accepted (bytes : List ℕ) : Type 0 where
+-- none of 1 to 5 holds of a job table's bytes
+pub record WellFormed (bytes : List ℕ) : Type 0 where
   pub whole : badLength bytes ≡ false
   pub readable : unreadable (readAll inJobs bytes) ≡ none
   pub sound : Sound (jobTable bytes)
 
--- of accepted bytes the number is what comes after 1 to 5
-pub accepted-number : {bytes : List ℕ} → Accepted bytes → (later : ℕ) → jobsNumber bytes later ≡ later
+-- the number of such bytes is what comes after 1 to 5
+pub well-formed-number : {bytes : List ℕ} → WellFormed bytes → (later : ℕ) → jobsNumber bytes later ≡ later
 unfolding jobsNumber
-accepted-number h later = rw (h .whole, h .readable, h .sound .three, h .sound .four, h .sound .five)
+well-formed-number h later = rw (h .whole, h .readable, h .sound .three, h .sound .four, h .sound .five)
 
--- bytes with a number that is none of 1 to 5 are accepted, and that number comes after
-pub number-accepted : (bytes : List ℕ) (later given : ℕ) → (0 < given → 5 < given) → jobsNumber bytes later ≡ given → Accepted bytes × (later ≡ given)
+-- none of 1 to 5 holds of bytes with another number, and that number comes after
+pub number-well-formed : (bytes : List ℕ) (later given : ℕ) → (0 < given → 5 < given) → jobsNumber bytes later ≡ given → WellFormed bytes × (later ≡ given)
 unfolding jobsNumber
-number-accepted bytes later given above e =
+number-well-formed bytes later given above e =
     let one = refuse-passed 1 _ _ given (other 1 (lit< tt) (lit< tt)) e in
     let two = refuse-passed 2 _ _ given (other 2 (lit< tt) (lit< tt)) (one .1) in
     let three = refuse-passed 3 _ _ given (other 3 (lit< tt) (lit< tt)) (two .1) in
