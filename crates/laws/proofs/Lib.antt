@@ -2,3 +2,4 @@
 pub mod Lists
 pub mod Members
 pub mod Tests
+pub mod Parts

@@ -2,3 +2,6 @@
 pub mod Computes
 pub mod Cases
 pub mod Meanings
+pub mod Words
+pub mod Rest
+pub mod Opening

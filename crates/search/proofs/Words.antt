@@ -1,0 +1,60 @@
+-- The order of words, and lists of sequences in that order. Two words that begin alike are compared where they go on;
+-- a list is in order if its two halves are, and each sequence of the first stands before each of the second.
+use Prim.Native.Nat.{ℕ, _<_}
+use mathlib.Core.List.{List, [], _∷_, _++_, reverse, reverse-cons, append-nil}
+use mathlib.Core.Path.{_≡_, ap, sym, _∙_}
+use lib.Seq.{append-snoc}
+use Rattle.laws.specs.Lists.{Every}
+use Rattle.laws.proofs.Parts.{every-append}
+use Rattle.search.specs.Order.{Before, beginning, differs, same, InOrder}
+
+-- a word stands before all that go on from it
+pub before-longer : (u : List ℕ) (k : ℕ) (w : List ℕ) → Before u (u ++ k ∷ w)
+before-longer [] k w = beginning
+before-longer (x ∷ u) k w = same (before-longer u k w)
+
+-- words that begin alike and then differ stand as the jobs do where they differ
+pub before-differs : (u : List ℕ) {k m : ℕ} (v w : List ℕ) → k < m → Before (u ++ k ∷ v) (u ++ m ∷ w)
+before-differs [] v w h = differs h
+before-differs (x ∷ u) v w h = same (before-differs u v w h)
+
+-- one sequence stands before another
+abbrev pub Sooner : List ℕ → List ℕ → Type 0
+Sooner p q = Before (reverse p) (reverse q)
+
+-- two lists in order are in order one after the other, if each sequence of the first stands before each of the second
+pub in-order-append : (ps qs : List (List ℕ)) → InOrder ps → InOrder qs → Every (λ p. Every (Sooner p) qs) ps → InOrder (ps ++ qs)
+in-order-append [] qs h k between = k
+in-order-append (p ∷ ps) qs h k between = (every-append (Sooner p) ps qs (h .0) (between .0), in-order-append ps qs (h .1) k (between .1))
+
+-- in a list in order each sequence stands before those after it
+pub in-order-after : (before : List (List ℕ)) (q : List ℕ) (after : List (List ℕ)) → InOrder (before ++ q ∷ after) → Every (Sooner q) after
+in-order-after [] q after h = h .0
+in-order-after (p ∷ before) q after h = in-order-after before q after (h .1)
+
+-- a sequence goes on from another
+abbrev pub Extends : List ℕ → List ℕ → Type 0
+Extends q r = (w : List ℕ) × (reverse r ≡ reverse q ++ w)
+
+-- a sequence goes on from itself, by nothing
+pub extends-itself : (q : List ℕ) → Extends q q
+extends-itself q = ([], sym (append-nil (reverse q)))
+
+-- what goes on with a job has that job next
+pub extends-word : (q : List ℕ) (k : ℕ) (r : List ℕ) → Extends (k ∷ q) r → (w : List ℕ) × (reverse r ≡ reverse q ++ k ∷ w)
+extends-word q k r x = (x .0, x .1 ∙ ap (λ (l : List ℕ). l ++ x .0) (reverse-cons k q) ∙ append-snoc (reverse q) k (x .0))
+
+-- what goes on with a job goes on
+pub extends-next : (q : List ℕ) (k : ℕ) (r : List ℕ) → Extends (k ∷ q) r → Extends q r
+extends-next q k r x = let y = extends-word q k r x in (k ∷ y .0, y .1)
+
+-- "a beginning before its extensions"
+pub extends-sooner : (q : List ℕ) (k : ℕ) (r : List ℕ) → Extends (k ∷ q) r → Sooner q r
+extends-sooner q k r x = let y = extends-word q k r x in rw (y .1) (before-longer (reverse q) k (y .0))
+
+-- "by the first job number that differs"
+pub differ-sooner : (q : List ℕ) {k m : ℕ} → k < m → (p r : List ℕ) → Extends (k ∷ q) p → Extends (m ∷ q) r → Sooner p r
+differ-sooner q {k} {m} h p r x y =
+    let u = extends-word q k p x in
+    let v = extends-word q m r y in
+    rw (u .1, v .1) (before-differs (reverse q) (u .0) (v .0) h)
