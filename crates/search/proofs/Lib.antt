@@ -5,3 +5,4 @@ pub mod Meanings
 pub mod Words
 pub mod Rest
 pub mod Opening
+pub mod Schedules

@@ -1,10 +1,14 @@
 -- The order of words, and lists of sequences in that order. Two words that begin alike are compared where they go on;
 -- a list is in order if its two halves are, and each sequence of the first stands before each of the second.
 use Prim.Native.Nat.{ℕ, _<_}
+use native.Mathlib.Omega.{arith}
 use mathlib.Core.List.{List, [], _∷_, _++_, reverse, reverse-cons, append-nil}
-use mathlib.Core.Path.{_≡_, ap, sym, _∙_}
+use mathlib.Core.List.{List·Memᴰ, List·Memᴰ·head, List·Memᴰ·not-nil, List·Memᴰ·cases-cons, Memᴰ·append-left, Memᴰ·append-right}
+use mathlib.Core.Logic.{_⊎_, inl, inr}
+use mathlib.Core.Path.{_≡_, refl, ap, sym, _∙_}
 use lib.Seq.{append-snoc}
 use Rattle.laws.specs.Lists.{Every}
+use Rattle.laws.proofs.Members.{every-member, member-every}
 use Rattle.laws.proofs.Parts.{every-append}
 use Rattle.search.specs.Order.{Before, beginning, differs, same, InOrder}
 
@@ -17,6 +21,29 @@ before-longer (x ∷ u) k w = same (before-longer u k w)
 pub before-differs : (u : List ℕ) {k m : ℕ} (v w : List ℕ) → k < m → Before (u ++ k ∷ v) (u ++ m ∷ w)
 before-differs [] v w h = differs h
 before-differs (x ∷ u) v w h = same (before-differs u v w h)
+
+-- what the first jobs of two words say, if one stands before the other
+abbrev Compared : List ℕ → List ℕ → Type 0
+Compared v [] = ⊥
+Compared [] (m ∷ w) = Unit {0}
+Compared (k ∷ v) (m ∷ w) = (k < m) ⊎ ((k ≡ m) × Compared v w)
+
+compared : {v w : List ℕ} → Before v w → Compared v w
+compared beginning = tt
+compared (differs h) = inl h
+compared (same h) = inr (refl, compared h)
+
+-- of two words only one stands before the other
+pub before-one-way : {v w : List ℕ} → Before v w → Before w v → ⊥
+before-one-way {v} {w} h k = go v w (compared h) (compared k)
+  where
+    go : (v w : List ℕ) → Compared v w → Compared w v → ⊥
+    go v [] h k = h
+    go [] (m ∷ w) h k = k
+    go (k ∷ v) (m ∷ w) (inl h) (inl i) = omega arith
+    go (k ∷ v) (m ∷ w) (inl h) (inr i) = omega arith
+    go (k ∷ v) (m ∷ w) (inr h) (inl i) = omega arith
+    go (k ∷ v) (m ∷ w) (inr h) (inr i) = go v w (h .1) (i .1)
 
 -- one sequence stands before another
 abbrev pub Sooner : List ℕ → List ℕ → Type 0
@@ -31,6 +58,20 @@ in-order-append (p ∷ ps) qs h k between = (every-append (Sooner p) ps qs (h .0
 pub in-order-after : (before : List (List ℕ)) (q : List ℕ) (after : List (List ℕ)) → InOrder (before ++ q ∷ after) → Every (Sooner q) after
 in-order-after [] q after h = h .0
 in-order-after (p ∷ before) q after h = in-order-after before q after (h .1)
+
+-- and after those before it
+pub in-order-between : (before : List (List ℕ)) (q : List ℕ) (after : List (List ℕ)) → InOrder (before ++ q ∷ after) → (p : List ℕ) → List·Memᴰ p before → Sooner p q
+in-order-between [] q after h p m = absurd (List·Memᴰ·not-nil m)
+in-order-between (r ∷ before) q after h p m = step (List·Memᴰ·cases-cons m) (in-order-between before q after (h .1) p)
+  where
+    step : (p ≡ r) ⊎ List·Memᴰ p before → (List·Memᴰ p before → Sooner p q) → Sooner p q
+    step (inl e) below = rw e (every-member (Sooner r) (h .0) q (Memᴰ·append-right before (List·Memᴰ·head refl)))
+    step (inr m) below = below m
+
+-- the front of a list in order is in order
+pub in-order-front : (ps qs : List (List ℕ)) → InOrder (ps ++ qs) → InOrder ps
+in-order-front [] qs h = tt
+in-order-front (p ∷ ps) qs h = (member-every (Sooner p) ps (λ r m. every-member (Sooner p) (h .0) r (Memᴰ·append-left qs m)), in-order-front ps qs (h .1))
 
 -- a sequence goes on from another
 abbrev pub Extends : List ℕ → List ℕ → Type 0
