@@ -1,12 +1,15 @@
 -- A list and its parts: two lists joined, and the elements kept.
 -- Where one element is kept no longer, a sum over those kept falls by its share: the numbers rise, so that it stands in the list once.
-use Prim.Native.Nat.{ℕ, _+_, _<_}
+use Prim.Native.Nat.{ℕ, _+_, _<_, _≤_}
+use native.Mathlib.Nat.{le-refl, le-trans, le-of-lt}
 use native.Mathlib.Omega.{arith}
 use mathlib.Core.Bool.{Bool, true, false}
 use mathlib.Core.Path.{_≡_, refl, ap, sym, _∙_}
 use mathlib.Core.Logic.{_⊎_, inl, inr}
-use mathlib.Core.List.{List, [], _∷_, _++_, map, List·Memᴰ, List·Memᴰ·not-nil, List·Memᴰ·cases-cons}
+use mathlib.Core.List.{List, [], _∷_, _++_, map, List·Memᴰ, List·Memᴰ·head, List·Memᴰ·tail, List·Memᴰ·not-nil, List·Memᴰ·cases-cons, List·Memᴰ·eq-of-singleton}
 use lib.ListN.{length}
+use lib.Dec.{leb}
+use borrow.Author.Tests.{leb-true, leb-false}
 use Rattle.laws.specs.Lists.{only, keep, total, Every}
 use Rattle.laws.proofs.Members.{every-member, keep-same, Rising}
 
@@ -30,6 +33,26 @@ module _ {A : Type 0} where
   pub length-none : (xs : List A) → length xs ≡ 0 → xs ≡ []
   length-none [] e = refl
   length-none (x ∷ xs) e = absurd (omega arith)
+
+-- of the elements of a list that has some, one is least by a measure
+pub least-by : {A : Type 0} (f : A → ℕ) (x : A) (xs : List A) → (y : A) × List·Memᴰ y (x ∷ xs) × ((z : A) → List·Memᴰ z (x ∷ xs) → f y ≤ f z)
+least-by f x [] = (x, List·Memᴰ·head refl, λ z m. rw (List·Memᴰ·eq-of-singleton m) (le-refl (f x)))
+least-by {A} f x (w ∷ xs) = choose (least-by f w xs)
+  where
+    choose : (y : A) × List·Memᴰ y (w ∷ xs) × ((z : A) → List·Memᴰ z (w ∷ xs) → f y ≤ f z) → (y : A) × List·Memᴰ y (x ∷ w ∷ xs) × ((z : A) → List·Memᴰ z (x ∷ w ∷ xs) → f y ≤ f z)
+    choose r = step (leb (f x) (f (r .0))) refl
+      where
+        first : f x ≤ f (r .0) → (z : A) → (z ≡ x) ⊎ List·Memᴰ z (w ∷ xs) → f x ≤ f z
+        first h z (inl e) = rw e (le-refl (f x))
+        first h z (inr m) = le-trans h (r .2 z m)
+
+        later : f (r .0) < f x → (z : A) → (z ≡ x) ⊎ List·Memᴰ z (w ∷ xs) → f (r .0) ≤ f z
+        later h z (inl e) = rw e (le-of-lt h)
+        later h z (inr m) = r .2 z m
+
+        step : (t : Bool) → leb (f x) (f (r .0)) ≡ t → (y : A) × List·Memᴰ y (x ∷ w ∷ xs) × ((z : A) → List·Memᴰ z (x ∷ w ∷ xs) → f y ≤ f z)
+        step true e = (x, List·Memᴰ·head refl, λ z m. first (leb-true (f x) (f (r .0)) e) z (List·Memᴰ·cases-cons m))
+        step false e = (r .0, List·Memᴰ·tail (r .1), λ z m. later (leb-false (f x) (f (r .0)) e) z (List·Memᴰ·cases-cons m))
 
 -- keeping some of what a function gives is giving it for those that it is to be kept for
 pub keep-map : {A B : Type 0} (p : B → Bool) (f : A → B) (xs : List A) → keep p (map f xs) ≡ map f (keep (λ x. p (f x)) xs)

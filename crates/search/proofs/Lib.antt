@@ -6,3 +6,5 @@ pub mod Words
 pub mod Rest
 pub mod Opening
 pub mod Schedules
+pub mod Running
+pub mod Existence

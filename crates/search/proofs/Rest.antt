@@ -5,11 +5,11 @@ use native.Mathlib.Omega.{arith}
 use mathlib.Core.Bool.{true, not}
 use mathlib.Core.Path.{_≡_, refl, ap, sym, _∙_}
 use mathlib.Core.Logic.{_↔_}
-use mathlib.Core.List.{List, [], _∷_, map, map-map, List·Memᴰ, Memᴰ·cast}
+use mathlib.Core.List.{List, [], _∷_, map, map-map, List·Memᴰ, Memᴰ·cast, Memᴰ·map, Memᴰ·of-map}
 use lib.ListN.{length}
 use borrow.Author.Tests.{eqb-true, eq-eqb, ne-eqb}
-use Rattle.laws.specs.Lists.{keep, total}
-use Rattle.laws.proofs.Members.{keep-member}
+use Rattle.laws.specs.Lists.{keep, total, Every}
+use Rattle.laws.proofs.Members.{keep-member, member-every}
 use Rattle.laws.proofs.Parts.{keep-map, keep-all, total-ones, total-without, length-none}
 use Rattle.records.specs.declared.Job.{Job}
 use Rattle.records.specs.declared.JobRecord.{JobRecord}
@@ -37,6 +37,15 @@ rest-member table q n = (
   λ m. let r = keep-member (λ n. not (has q n)) (numbers table) n .0 m in (r .0, has-not q n .0 (r .1)),
   λ h. keep-member (λ n. not (has q n)) (numbers table) n .1 (h .0, has-not q n .1 (h .1)),
 )
+
+-- so a job with one of these numbers is not in the sequence, and what holds of each such job holds of every job not in it
+pub rest-remaining : (table : List JobRecord) (q : List ℕ) (n : ℕ) → List·Memᴰ n (rest table q) → List·Memᴰ (jobAt table n) (remaining table q)
+rest-remaining table q n m = rw (remaining-rest table q) (Memᴰ·map (jobAt table) m)
+
+pub remaining-every : (table : List JobRecord) (q : List ℕ) (P : Job → Type 0) → ((n : ℕ) → List·Memᴰ n (rest table q) → P (jobAt table n)) → Every P (remaining table q)
+remaining-every table q P h =
+    rw (remaining-rest table q)
+    (member-every P (map (jobAt table) (rest table q)) (λ j m. let r = Memᴰ·of-map (jobAt table) (rest table q) m in rw (← r .2) (h (r .0) (r .1))))
 
 -- the costs of the jobs not in the sequence, by number
 pub remaining-costs : (table : List JobRecord) (q : List ℕ) → total (map (λ j. j .cost) (remaining table q)) ≡ total (map (cost table) (rest table q))
