@@ -3,13 +3,11 @@
 -- They run without overlap, so that all their costs together fit before the end of the one that ends last: by induction on how many are left.
 use Prim.Native.Nat.{ℕ, zero, suc, _+_, _≤_}
 use native.Mathlib.Omega.{arith}
-use mathlib.Core.Bool.{Bool, true, false, cond}
+use mathlib.Core.Bool.{true, false}
 use mathlib.Core.Path.{_≡_, refl, ap, sym, _∙_}
 use mathlib.Core.Logic.{_⊎_, inl, inr}
 use mathlib.Core.List.{List, [], _∷_, map, List·Memᴰ, List·Memᴰ·head, List·Memᴰ·tail}
 use lib.ListN.{length}
-use lib.Dec.{eqb}
-use borrow.Author.Tests.{eqb-true}
 use Rattle.laws.specs.Lists.{Every, total}
 use Rattle.laws.proofs.Lists.{every-weaker}
 use Rattle.laws.proofs.Members.{either, true-not-false}
@@ -29,7 +27,7 @@ use Rattle.search.specs.Order.{MayFollow, Live, Open, Full}
 use Rattle.search.proofs.Meanings.{has-member}
 use Rattle.search.proofs.Rest.{rest, rest-member, rest-remaining, remaining-every, remaining-costs, full-rest, rest-total, rest-length}
 use Rattle.search.proofs.Opening.{open-start, open-next}
-use Rattle.search.proofs.Running.{linksAllow-least}
+use Rattle.search.proofs.Running.{linksAllow-least, endIn-early}
 
 -- a job left that starts first of those left
 pub record Next (table : List JobRecord) (start : ℕ → ℕ) (q : List ℕ) (k : ℕ) : Type 0 where
@@ -56,16 +54,6 @@ next table start q = step (rest table q) refl
     step : (ns : List ℕ) → rest table q ≡ ns → (rest table q ≡ []) ⊎ ((k : ℕ) × Next table start q k)
     step [] e = inl e
     step (n ∷ ns) e = let r = least-by start n ns in inr (r .0, record { left = rw e (r .1); first = λ m h. r .2 m (rw e at h) })
-
--- a job ends in a run by the time by which its slot ends
-pub endIn-early : (slots : List Slot) (end : ℕ → ℕ) → Every (λ s. s .end ≤ end (s .number)) slots → (i : ℕ) → endIn slots i ≤ end i
-unfolding endIn
-endIn-early [] end h i = omega arith
-endIn-early (s ∷ slots) end h i = step (eqb (s .number) i) refl (endIn-early slots end (h .1) i)
-  where
-    step : (t : Bool) → eqb (s .number) i ≡ t → endIn slots i ≤ end i → cond t (s .end) (endIn slots i) ≤ end i
-    step true e below = rw (← eqb-true (s .number) i e) (h .0)
-    step false e below = below
 
 module _ (table : List JobRecord) (sound : Sound table) (start : ℕ → ℕ) (feasible : Feasible table start) where
   -- the starts are permitted, by number

@@ -8,3 +8,4 @@ pub mod Opening
 pub mod Schedules
 pub mod Running
 pub mod Existence
+pub mod Feasibility

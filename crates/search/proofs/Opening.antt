@@ -20,7 +20,7 @@ use Rattle.search.specs.Run.{mayFollow}
 use Rattle.search.specs.Live.{live}
 use Rattle.search.specs.Tree.{opens, tryEach, openFrom, openSequences}
 use Rattle.search.specs.Order.{MayFollow, Live, Open, InOrder, Lists}
-use Rattle.search.proofs.Words.{Sooner, in-order-append, Extends, extends-itself, extends-next, extends-sooner, differ-sooner}
+use Rattle.search.proofs.Words.{Sooner, in-order-append, in-order-same, Extends, extends-itself, extends-next, extends-sooner, differ-sooner}
 use Rattle.search.proofs.Meanings.{mayFollow-means, live-means}
 use Rattle.search.proofs.Rest.{rest-member, follows-rest, sequence-length}
 
@@ -175,3 +175,9 @@ module _ (table : List JobRecord) (sound : Sound table) where
             complete = λ q o. absurd (true-not-false (live-means table [] .1 (o .live q [] (append-nil q))) e);
             inOrder = tt;
           }
+
+-- there is only one list of just the open sequences in order, and so only one number of them
+pub lists-unique : (table : List JobRecord) (ps qs : List (List ℕ)) → Lists table ps → Lists table qs → ps ≡ qs
+lists-unique table ps qs a b =
+    in-order-same ps qs (a .inOrder) (b .inOrder)
+    (λ r. (λ m. b .complete r (every-member (Open table) (a .areOpen) r m), λ m. a .complete r (every-member (Open table) (b .areOpen) r m)))

@@ -2,14 +2,14 @@
 -- a sequence is no longer than that, and as long only when it holds all jobs.
 use Prim.Native.Nat.{ℕ, suc, _+_}
 use native.Mathlib.Omega.{arith}
-use mathlib.Core.Bool.{true, not}
+use mathlib.Core.Bool.{true, false, not}
 use mathlib.Core.Path.{_≡_, refl, ap, sym, _∙_}
-use mathlib.Core.Logic.{_↔_}
-use mathlib.Core.List.{List, [], _∷_, map, map-map, List·Memᴰ, Memᴰ·cast, Memᴰ·map, Memᴰ·of-map}
+use mathlib.Core.Logic.{_↔_, _⊎_, inl, inr}
+use mathlib.Core.List.{List, [], _∷_, map, map-map, List·Memᴰ, List·Memᴰ·not-nil, Memᴰ·cast, Memᴰ·map, Memᴰ·of-map}
 use lib.ListN.{length}
 use borrow.Author.Tests.{eqb-true, eq-eqb, ne-eqb}
 use Rattle.laws.specs.Lists.{keep, total, Every}
-use Rattle.laws.proofs.Members.{keep-member, member-every}
+use Rattle.laws.proofs.Members.{either, true-not-false, keep-member, member-every}
 use Rattle.laws.proofs.Parts.{keep-map, keep-all, total-ones, total-without, length-none}
 use Rattle.records.specs.declared.Job.{Job}
 use Rattle.records.specs.declared.JobRecord.{JobRecord}
@@ -20,7 +20,7 @@ use Rattle.search.specs.Run.{has}
 use Rattle.search.specs.Live.{remaining}
 use Rattle.search.specs.Tree.{full}
 use Rattle.search.specs.Order.{MayFollow, Sequence, Full}
-use Rattle.search.proofs.Meanings.{has-not}
+use Rattle.search.proofs.Meanings.{has-member, has-not}
 
 -- the numbers of the jobs not in the sequence
 abbrev pub rest : List JobRecord → List ℕ → List ℕ
@@ -38,10 +38,11 @@ rest-member table q n = (
   λ h. keep-member (λ n. not (has q n)) (numbers table) n .1 (h .0, has-not q n .1 (h .1)),
 )
 
--- so a job with one of these numbers is not in the sequence, and what holds of each such job holds of every job not in it
+-- a job with one of these numbers is not in the sequence
 pub rest-remaining : (table : List JobRecord) (q : List ℕ) (n : ℕ) → List·Memᴰ n (rest table q) → List·Memᴰ (jobAt table n) (remaining table q)
 rest-remaining table q n m = rw (remaining-rest table q) (Memᴰ·map (jobAt table) m)
 
+-- what holds of each job with one of these numbers holds of every job not in the sequence
 pub remaining-every : (table : List JobRecord) (q : List ℕ) (P : Job → Type 0) → ((n : ℕ) → List·Memᴰ n (rest table q) → P (jobAt table n)) → Every P (remaining table q)
 remaining-every table q P h =
     rw (remaining-rest table q)
@@ -62,6 +63,16 @@ full-rest table q = (
     none : (ns : List ℕ) → map (jobAt table) ns ≡ [] → ns ≡ []
     none [] e = refl
     none (n ∷ ns) e = let z : _≡_ {A = ℕ} 0 1 = cc in absurd (omega arith)
+
+-- a sequence that holds all jobs holds each of the table's
+pub full-holds : (table : List JobRecord) (q : List ℕ) → Full table q → (n : ℕ) → List·Memᴰ n (numbers table) → List·Memᴰ n q
+full-holds table q f n m = step (either (has q n))
+  where
+    step : (has q n ≡ true) ⊎ (has q n ≡ false) → List·Memᴰ n q
+    step (inl h) = has-member q n .0 h
+    step (inr h) =
+        let left = rest-member table q n .1 (m, λ p. true-not-false (has-member q n .1 p) h) in
+        absurd (List·Memᴰ·not-nil (rw (full-rest table q .0 f) at left))
 
 module _ (table : List JobRecord) (q : List ℕ) (k : ℕ) (left : List·Memᴰ k (rest table q)) where
   -- a sum over the rest falls by the share of the job that follows

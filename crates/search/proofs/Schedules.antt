@@ -17,7 +17,7 @@ use Rattle.jobs.specs.Judge.{Sound}
 use Rattle.jobs.specs.Jobs.{numbers}
 use Rattle.search.specs.Tree.{openSequences, full, firstFull, upToFull, schedule, openings}
 use Rattle.search.specs.Order.{Open, Full, First, InOrder, Lists}
-use Rattle.search.proofs.Words.{Sooner, before-one-way, in-order-after, in-order-front, in-order-between}
+use Rattle.search.proofs.Words.{Sooner, before-one-way, in-order-after, in-order-same, in-order-front, in-order-between}
 use Rattle.search.proofs.Rest.{full-means}
 use Rattle.search.proofs.Opening.{lists-open}
 
@@ -89,6 +89,10 @@ pub record Opened (table : List JobRecord) (q : List ℕ) : Type 0 where
 pub record UpTo (table : List JobRecord) (q : List ℕ) (ps : List (List ℕ)) : Type 0 where
   pub just : (p : List ℕ) → List·Memᴰ p ps ↔ (Open table p × ((p ≡ q) ⊎ Sooner p q))
   pub inOrder : InOrder ps
+
+-- there is only one such list, and so only one number of them
+pub up-to-unique : (table : List JobRecord) (q : List ℕ) (ps rs : List (List ℕ)) → UpTo table q ps → UpTo table q rs → ps ≡ rs
+up-to-unique table q ps rs a b = in-order-same ps rs (a .inOrder) (b .inOrder) (λ p. (λ m. b .just p .1 (a .just p .0 m), λ m. a .just p .1 (b .just p .0 m)))
 
 module _ (table : List JobRecord) (sound : Sound table) where
   -- the open sequences, as they are listed

@@ -3,9 +3,9 @@
 use Prim.Native.Nat.{ℕ, _<_}
 use native.Mathlib.Omega.{arith}
 use mathlib.Core.List.{List, [], _∷_, _++_, reverse, reverse-cons, append-nil}
-use mathlib.Core.List.{List·Memᴰ, List·Memᴰ·head, List·Memᴰ·not-nil, List·Memᴰ·cases-cons, Memᴰ·append-left, Memᴰ·append-right}
-use mathlib.Core.Logic.{_⊎_, inl, inr}
-use mathlib.Core.Path.{_≡_, refl, ap, sym, _∙_}
+use mathlib.Core.List.{List·Memᴰ, List·Memᴰ·head, List·Memᴰ·tail, List·Memᴰ·not-nil, List·Memᴰ·cases-cons, Memᴰ·append-left, Memᴰ·append-right}
+use mathlib.Core.Logic.{_↔_, _⊎_, inl, inr}
+use mathlib.Core.Path.{_≡_, refl, ap, ap₂, sym, _∙_}
 use lib.Seq.{append-snoc}
 use Rattle.laws.specs.Lists.{Every}
 use Rattle.laws.proofs.Members.{every-member, member-every}
@@ -72,6 +72,28 @@ in-order-between (r ∷ before) q after h p m = step (List·Memᴰ·cases-cons m
 pub in-order-front : (ps qs : List (List ℕ)) → InOrder (ps ++ qs) → InOrder ps
 in-order-front [] qs h = tt
 in-order-front (p ∷ ps) qs h = (member-every (Sooner p) ps (λ r m. every-member (Sooner p) (h .0) r (Memᴰ·append-left qs m)), in-order-front ps qs (h .1))
+
+-- lists in order that hold the same sequences are equal
+pub in-order-same : (ps qs : List (List ℕ)) → InOrder ps → InOrder qs → ((r : List ℕ) → List·Memᴰ r ps ↔ List·Memᴰ r qs) → ps ≡ qs
+in-order-same [] [] h k e = refl
+in-order-same [] (q ∷ qs) h k e = absurd (List·Memᴰ·not-nil (e q .1 (List·Memᴰ·head refl)))
+in-order-same (p ∷ ps) [] h k e = absurd (List·Memᴰ·not-nil (e p .0 (List·Memᴰ·head refl)))
+in-order-same (p ∷ ps) (q ∷ qs) h k e = ap₂ _∷_ first (in-order-same ps qs (h .1) (k .1) (λ r. (later first (h .0) (λ m. e r .0 m), later (sym first) (k .0) (λ m. e r .1 m))))
+  where
+    compare : (p ≡ q) ⊎ List·Memᴰ p qs → (q ≡ p) ⊎ List·Memᴰ q ps → p ≡ q
+    compare (inl s) other = s
+    compare (inr m) (inl s) = sym s
+    compare (inr m) (inr n) = absurd (before-one-way (every-member (Sooner p) (h .0) q n) (every-member (Sooner q) (k .0) p m))
+
+    first : p ≡ q
+    first = compare (List·Memᴰ·cases-cons (e p .0 (List·Memᴰ·head refl))) (List·Memᴰ·cases-cons (e q .1 (List·Memᴰ·head refl)))
+
+    later : {a b r : List ℕ} {us vs : List (List ℕ)} → a ≡ b → Every (Sooner a) us → (List·Memᴰ r (a ∷ us) → List·Memᴰ r (b ∷ vs)) → List·Memᴰ r us → List·Memᴰ r vs
+    later {a} {b} {r} {us} {vs} s sooner there m = step (List·Memᴰ·cases-cons (there (List·Memᴰ·tail m)))
+      where
+        step : (r ≡ b) ⊎ List·Memᴰ r vs → List·Memᴰ r vs
+        step (inl t) = let itself : Sooner a a = rw (t ∙ sym s) at (every-member (Sooner a) sooner r m) in absurd (before-one-way itself itself)
+        step (inr n) = n
 
 -- a sequence goes on from another
 abbrev pub Extends : List ℕ → List ℕ → Type 0
