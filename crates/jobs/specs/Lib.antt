@@ -2,3 +2,4 @@ pub mod Judge
 pub mod Jobs
 pub mod Starts
 pub mod Call
+pub mod Arrays

@@ -18,9 +18,13 @@ word low high = low + 256 * high
 abbrev pub pair : ℕ → List ℕ
 pair n = n % 256 ∷ n / 256 % 256 ∷ []
 
+-- byte k of those from `at` on
+abbrev pub bytesFrom : List ℕ → ℕ → ℕ → ℕ
+bytesFrom bytes at k = getD bytes (at + k) 0
+
 -- "Every table is a run of 12-byte records": byte k of the record at a place
 abbrev pub recordAt : List ℕ → ℕ → ℕ → ℕ
-recordAt bytes place k = getD bytes (12 * place + k) 0
+recordAt bytes place = bytesFrom bytes (12 * place)
 
 -- "Bytes marked z are zero": the n bytes from k on are
 abbrev pub zeros : (ℕ → ℕ) → ℕ → ℕ → Bool

@@ -15,6 +15,10 @@ use Rattle.records.specs.declared.PassRecord.{PassRecord}
 use Rattle.records.specs.declared.PassRecord.the-variants.{P, F}
 use Rattle.records.specs.declared.JobRecord.{JobRecord}
 use Rattle.records.specs.declared.JobRecord.the-variants.{J, L}
+use Rattle.records.specs.declared.PassRead.{PassRead}
+use Rattle.records.specs.declared.PassRead.the-variants as pass-read
+use Rattle.records.specs.declared.JobRead.{JobRead}
+use Rattle.records.specs.declared.JobRead.the-variants as job-read
 
 -- each record by its fields, in the order of 01's table
 abbrev pub pass : ℕ → ℕ → ℕ → ℕ → ℕ → Pass
@@ -65,6 +69,15 @@ inJobs b = cond (kind b 0x4a) (readJob b) (cond (kind b 0x4c) (readLink b) none)
 
 unfoldable pub inSchedule : (ℕ → ℕ) → Option Slot
 inSchedule b = cond (kind b 0x53) (readSlot b) none
+
+-- what reading a record answers, in code
+abbrev pub passRead : Option PassRecord → PassRead
+passRead none = pass-read.Unreadable
+passRead (some r) = pass-read.Record r
+
+abbrev pub jobRead : Option JobRecord → JobRead
+jobRead none = job-read.Unreadable
+jobRead (some r) = job-read.Record r
 
 -- the twelve bytes of a record of each kind of table
 unfoldable pub passBytes : PassRecord → List ℕ

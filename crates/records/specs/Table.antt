@@ -7,6 +7,8 @@ use lib.ListN.{length}
 use lib.Dec.{eqb, ltb}
 use Rattle.laws.specs.Lists.{flat, found, firstFault}
 use Rattle.records.specs.Bytes.{recordAt}
+use Rattle.records.specs.declared.table.Found.{Found}
+use Rattle.records.specs.declared.table.Found.the-variants.{At, Nothing}
 
 -- 1: "length no multiple of 12, or over 49,152 bytes (4,096 records)"
 unfoldable pub badLength : List ℕ → Bool
@@ -39,3 +41,8 @@ module _ {A : Type 0} where
   -- encoding: the records' bytes, one after another
   unfoldable pub encode : (A → List ℕ) → List A → List ℕ
   encode write = flat write
+
+-- a place that was looked for, as code answers it
+abbrev pub asFound : Option ℕ → Found
+asFound none = Nothing
+asFound (some place) = At place

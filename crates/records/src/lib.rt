@@ -1,4 +1,8 @@
-// The five 12-byte records of document 01 as plain values, and what reading one can answer.
+// The five 12-byte records of document 01 as plain values; reading one at a place of a table, and writing one at a place of an output.
+
+pub mod read;
+pub mod table;
+pub mod write;
 
 // A pass: what it costs, how often it runs, when in its period it is released, and within what time it must finish.
 pub struct Pass {
