@@ -5,7 +5,7 @@ use native.Mathlib.Omega.{arith}
 use mathlib.Core.Bool.{true, false, not}
 use mathlib.Core.Path.{_≡_, refl, ap, sym, _∙_}
 use mathlib.Core.Logic.{_↔_, _⊎_, inl, inr}
-use mathlib.Core.List.{List, [], _∷_, map, map-map, List·Memᴰ, List·Memᴰ·not-nil, Memᴰ·cast, Memᴰ·map, Memᴰ·of-map}
+use mathlib.Core.List.{List, [], _∷_, map, map-map, List·Memᴰ, List·Memᴰ·not-nil, List·Memᴰ·cases-cons, Memᴰ·cast, Memᴰ·map, Memᴰ·of-map}
 use lib.ListN.{length}
 use borrow.Author.Tests.{eqb-true, eq-eqb, ne-eqb}
 use Rattle.laws.specs.Lists.{keep, total, Every}
@@ -93,6 +93,15 @@ module _ (table : List JobRecord) (sound : Sound table) where
   -- a job that may follow is one of the rest
   pub follows-rest : {q : List ℕ} {k : ℕ} → MayFollow table q k → List·Memᴰ k (rest table q)
   follows-rest {q} {k} f = rest-member table q k .1 (Memᴰ·cast (sym (f .numbered)) (job-known table sound (f .job) (f .ofTable) .0), f .distinct)
+
+  -- each job of a sequence is one of the table's
+  pub sequence-known : (q : List ℕ) → Sequence table q → (k : ℕ) → List·Memᴰ k q → List·Memᴰ k (numbers table)
+  sequence-known [] s k m = absurd (List·Memᴰ·not-nil m)
+  sequence-known (j ∷ q) s k m = step (List·Memᴰ·cases-cons m) (sequence-known q (s .1) k)
+    where
+      step : (k ≡ j) ⊎ List·Memᴰ k q → (List·Memᴰ k q → List·Memᴰ k (numbers table)) → List·Memᴰ k (numbers table)
+      step (inl e) below = Memᴰ·cast e (rest-member table q j .0 (follows-rest (s .0)) .0)
+      step (inr m) below = below m
 
   -- a sequence and its rest are together as many as the table's jobs
   pub sequence-length : (q : List ℕ) → Sequence table q → length (rest table q) + length q ≡ length (numbers table)

@@ -1,6 +1,6 @@
 -- Running a sequence: what the start of a job is the largest of, and when each job of it starts and ends. A law on the links is by induction on the table's records,
 -- a law on a job of the sequence by induction on the sequence: it is the last one, which starts after all others have ended, or stands before it and is not touched by it.
-use Prim.Native.Nat.{ℕ, _+_, _≤_, max}
+use Prim.Native.Nat.{ℕ, _+_, _-_, _≤_, max}
 use native.Mathlib.Omega.{arith}
 use mathlib.Core.Bool.{Bool, true, false, cond}
 use mathlib.Core.Path.{_≡_, refl, ap, sym, _∙_}
@@ -58,27 +58,34 @@ endIn-early (s ∷ slots) end h i = step (eqb (s .number) i) refl (endIn-early s
     step true e below = rw (← eqb-true (s .number) i e) (h .0)
     step false e below = below
 
--- when a job started in a run, its slots given with the last one first
-unfoldable pub startIn : List Slot → ℕ → ℕ
-startIn [] i = 0
-startIn (s ∷ slots) i = cond (eqb (s .number) i) (s .start) (startIn slots i)
+-- when a job of a sequence starts: a run holds ends, so a start is an end less the cost
+abbrev pub startIn : List JobRecord → List ℕ → ℕ → ℕ
+startIn table q i = endIn (run table q) i - cost table i
 
 -- a job of a sequence starts at or after its release, runs for its cost, and has ended when the core is free
 pub record Placed (table : List JobRecord) (q : List ℕ) (k : ℕ) : Type 0 where
-  pub released : release table k ≤ startIn (run table q) k
-  pub ended : startIn (run table q) k + cost table k ≡ endIn (run table q) k
+  pub released : release table k ≤ startIn table q k
+  pub ended : startIn table q k + cost table k ≡ endIn (run table q) k
   pub done : endIn (run table q) k ≤ free (run table q)
 
 module _ (table : List JobRecord) where
-  -- the last job starts when all that it waits for allows
-  pub start-last : (q : List ℕ) (k : ℕ) → startIn (run table (k ∷ q)) k ≡ startAfter table (run table q) k
-  unfolding run runNext startIn
-  start-last q k = rw (eq-eqb k k refl)
+  -- the last job ends a cost after all that it waits for allows
+  pub end-last : (q : List ℕ) (k : ℕ) → endIn (run table (k ∷ q)) k ≡ startAfter table (run table q) k + cost table k
+  unfolding run runNext endIn
+  end-last q k = rw (eq-eqb k k refl)
 
-  -- every other job starts when it did without the last one
-  pub start-other : (q : List ℕ) (k i : ℕ) → eqb k i ≡ false → startIn (run table (k ∷ q)) i ≡ startIn (run table q) i
-  unfolding run runNext startIn
-  start-other q k i e = rw e
+  -- every other job ends when it did without the last one
+  pub end-other : (q : List ℕ) (k i : ℕ) → eqb k i ≡ false → endIn (run table (k ∷ q)) i ≡ endIn (run table q) i
+  unfolding run runNext endIn
+  end-other q k i e = rw e
+
+  -- so the last job starts when all that it waits for allows
+  pub start-last : (q : List ℕ) (k : ℕ) → startIn table (k ∷ q) k ≡ startAfter table (run table q) k
+  start-last q k = omega (arith, end-last q k)
+
+  -- and every other job starts when it did without the last one
+  pub start-other : (q : List ℕ) (k i : ℕ) → eqb k i ≡ false → startIn table (k ∷ q) i ≡ startIn table q i
+  start-other q k i e = omega (arith, end-other q k i e)
 
   -- a run has a slot for each job of the sequence, in its order
   pub run-numbers : (q : List ℕ) → map (λ s. s .number) (run table q) ≡ q
@@ -86,9 +93,13 @@ module _ (table : List JobRecord) where
   run-numbers [] = refl
   run-numbers (k ∷ q) = ap (λ (l : List ℕ). k ∷ l) (run-numbers q)
 
+  -- so each slot is that of a job of the sequence
+  pub run-holds : (q : List ℕ) (s : Slot) → List·Memᴰ s (run table q) → List·Memᴰ (s .number) q
+  run-holds q s m = rw (run-numbers q) at (Memᴰ·map (λ s. s .number) m)
+
   -- a slot says when its job starts in the run of a sequence, and that it ends a cost later
   abbrev pub Says : List ℕ → Slot → Type 0
-  Says q s = (startIn (run table q) (s .number) ≡ s .start) × (s .end ≡ s .start + cost table (s .number))
+  Says q s = (startIn table q (s .number) ≡ s .start) × (s .end ≡ s .start + cost table (s .number))
 
   -- so does each slot of the run
   pub run-slots : (q : List ℕ) → Sequence table q → Every (Says q) (run table q)
@@ -98,8 +109,7 @@ module _ (table : List JobRecord) where
     where
       still : (s : Slot) → List·Memᴰ s (run table q) → Says q s → Says (k ∷ q) s
       still s m says =
-          let earlier : List·Memᴰ (s .number) q = rw (run-numbers q) at (Memᴰ·map (λ s. s .number) m) in
-          (start-other q k (s .number) (ne-eqb k (s .number) (λ e. h .0 .distinct (Memᴰ·cast e earlier))) ∙ says .0, says .1)
+          (start-other q k (s .number) (ne-eqb k (s .number) (λ e. h .0 .distinct (Memᴰ·cast e (run-holds q s m)))) ∙ says .0, says .1)
 
   -- a job of a sequence that is not the last one stands before it
   stands-before : (q : List ℕ) (k i : ℕ) → List·Memᴰ i (k ∷ q) → eqb k i ≡ false → List·Memᴰ i q
@@ -111,26 +121,27 @@ module _ (table : List JobRecord) where
 
   -- each job of a sequence is placed
   pub placed : (q : List ℕ) (i : ℕ) → List·Memᴰ i q → Placed table q i
-  unfolding run runNext startIn endIn free startAfter
+  unfolding run runNext free startAfter
   placed [] i m = absurd (List·Memᴰ·not-nil m)
   placed (k ∷ q) i m = step (eqb k i) refl (placed q i)
     where
       step : (t : Bool) → eqb k i ≡ t → (List·Memᴰ i q → Placed table q i) → Placed table (k ∷ q) i
       step true e below =
           let same = eqb-true k i e in
-          record { released = rw e (omega (arith, ap (release table) same)); ended = rw e (omega (arith, ap (cost table) same)); done = rw e (omega arith) }
+          let ends = ap (endIn (run table (k ∷ q))) same in
+          omega (arith, end-last q k, ends, ap (release table) same, ap (cost table) same)
       step false e below =
           let b = below (stands-before q k i m e) in
-          record { released = rw e (b .released); ended = rw e (b .ended); done = rw e (omega (arith, b .done)) }
+          omega (arith, end-other q k i e)
 
   -- a job that stands before the last one has ended when the last one starts
-  pub ended-before-last : (q : List ℕ) (k i : ℕ) → List·Memᴰ i q → eqb k i ≡ false → startIn (run table (k ∷ q)) i + cost table i ≤ startIn (run table (k ∷ q)) k
+  pub ended-before-last : (q : List ℕ) (k i : ℕ) → List·Memᴰ i q → eqb k i ≡ false → startIn table (k ∷ q) i + cost table i ≤ startIn table (k ∷ q) k
   unfolding startAfter
   ended-before-last q k i m e = let p = placed q i m in omega (arith, start-last q k, start-other q k i e, p .ended, p .done)
 
   -- where two jobs do not overlap in the run of a sequence
   abbrev pub Disjoint : List ℕ → ℕ → ℕ → Type 0
-  Disjoint q a b = (startIn (run table q) a + cost table a ≤ startIn (run table q) b) ⊎ (startIn (run table q) b + cost table b ≤ startIn (run table q) a)
+  Disjoint q a b = (startIn table q a + cost table a ≤ startIn table q b) ⊎ (startIn table q b + cost table b ≤ startIn table q a)
 
   -- two jobs of a sequence do not overlap
   pub run-apart : (q : List ℕ) (a b : ℕ) → List·Memᴰ a q → List·Memᴰ b q → (a ≡ b → ⊥) → Disjoint q a b
@@ -143,8 +154,8 @@ module _ (table : List JobRecord) where
 
       step : (s : Bool) → eqb k a ≡ s → (t : Bool) → eqb k b ≡ t → (List·Memᴰ a q → List·Memᴰ b q → Disjoint q a b) → Disjoint (k ∷ q) a b
       step true d true e below = absurd (other (sym (eqb-true k a d) ∙ eqb-true k b e))
-      step true d false e below = inr (omega (arith, ended-before-last q k b (stands-before q k b n e) e, ap (startIn (run table (k ∷ q))) (eqb-true k a d)))
-      step false d true e below = inl (omega (arith, ended-before-last q k a (stands-before q k a m d) d, ap (startIn (run table (k ∷ q))) (eqb-true k b e)))
+      step true d false e below = inr (omega (arith, ended-before-last q k b (stands-before q k b n e) e, ap (startIn table (k ∷ q)) (eqb-true k a d)))
+      step false d true e below = inl (omega (arith, ended-before-last q k a (stands-before q k a m d) d, ap (startIn table (k ∷ q)) (eqb-true k b e)))
       step false d false e below = still d e (below (stands-before q k a m d) (stands-before q k b n e))
 
   -- a sequence that holds a job holds what is linked to it
@@ -158,7 +169,7 @@ module _ (table : List JobRecord) where
 
   -- a job of a sequence starts at or after each predecessor's end plus latency
   pub run-linked : (q : List ℕ) → Sequence table q → (l : Link) → List·Memᴰ (L l) table → List·Memᴰ (l .to) q
-      → startIn (run table q) (l .from) + cost table (l .from) + l .latency ≤ startIn (run table q) (l .to)
+      → startIn table q (l .from) + cost table (l .from) + l .latency ≤ startIn table q (l .to)
   unfolding startAfter
   run-linked [] s l m n = absurd (List·Memᴰ·not-nil n)
   run-linked (k ∷ q) s l m n = step (eqb k (l .to)) refl (run-linked q (s .1) l m)
@@ -167,8 +178,8 @@ module _ (table : List JobRecord) where
       not-last p = ne-eqb k (l .from) (λ e. s .0 .distinct (Memᴰ·cast e p))
 
       step : (t : Bool) → eqb k (l .to) ≡ t
-          → (List·Memᴰ (l .to) q → startIn (run table q) (l .from) + cost table (l .from) + l .latency ≤ startIn (run table q) (l .to))
-          → startIn (run table (k ∷ q)) (l .from) + cost table (l .from) + l .latency ≤ startIn (run table (k ∷ q)) (l .to)
+          → (List·Memᴰ (l .to) q → startIn table q (l .from) + cost table (l .from) + l .latency ≤ startIn table q (l .to))
+          → startIn table (k ∷ q) (l .from) + cost table (l .from) + l .latency ≤ startIn table (k ∷ q) (l .to)
       step true e below =
           let same = eqb-true k (l .to) e in
           let first = s .0 .linked l m (sym same) in
@@ -179,7 +190,7 @@ module _ (table : List JobRecord) where
             placed q (l .from) first .ended,
             linksAllow-bounds table (run table q) l m,
             ap (linksAllow table (run table q)) same,
-            ap (startIn (run table (k ∷ q))) same,
+            ap (startIn table (k ∷ q)) same,
           )
       step false e below =
           let stands = stands-before q k (l .to) n e in

@@ -7,9 +7,8 @@ use mathlib.Core.Path.{_≡_, refl, ap, sym, _∙_}
 use mathlib.Core.Logic.{_↔_, _⊎_, inl, inr}
 use mathlib.Core.Option.{Option, none, some}
 use mathlib.Core.List.{List, [], _∷_, _++_}
-use mathlib.Core.List.{List·Memᴰ, List·Memᴰ·head, List·Memᴰ·cases-cons, List·Memᴰ·append-cases, List·Memᴰ·eq-of-singleton, Memᴰ·append-left, Memᴰ·append-right}
-use lib.ListN.{length, length-append}
-use lib.Seq.{append-snoc}
+use mathlib.Core.List.{List·Memᴰ, List·Memᴰ·head, List·Memᴰ·cases-cons, List·Memᴰ·append-cases, Memᴰ·append-left, Memᴰ·append-right}
+use lib.ListN.{length}
 use Rattle.laws.specs.Lists.{Every}
 use Rattle.laws.proofs.Members.{true-not-false, every-member, member-every}
 use Rattle.records.specs.declared.JobRecord.{JobRecord}
@@ -17,9 +16,9 @@ use Rattle.jobs.specs.Judge.{Sound}
 use Rattle.jobs.specs.Jobs.{numbers}
 use Rattle.search.specs.Tree.{openSequences, full, firstFull, upToFull, schedule, openings}
 use Rattle.search.specs.Order.{Open, Full, First, InOrder, Lists}
-use Rattle.search.proofs.Words.{Sooner, before-one-way, in-order-after, in-order-same, in-order-front, in-order-between}
+use Rattle.search.proofs.Words.{Sooner, before-one-way, in-order-after}
 use Rattle.search.proofs.Rest.{full-means}
-use Rattle.search.proofs.Opening.{lists-open}
+use Rattle.search.proofs.Opening.{lists-open, lists-unique}
 
 -- a list of sequences around its first full one, and the count up to it
 pub record Around (n : ℕ) (qs : List (List ℕ)) (q : List ℕ) : Type 0 where
@@ -84,15 +83,6 @@ pub record Opened (table : List JobRecord) (q : List ℕ) : Type 0 where
   pub whole : openSequences table ≡ before ++ q ∷ after
   pub notBefore : Every (λ p. Full table p → ⊥) before
   pub counted : openings table ≡ length before + 1
-
--- a list of just the open sequences up to and including q, in order
-pub record UpTo (table : List JobRecord) (q : List ℕ) (ps : List (List ℕ)) : Type 0 where
-  pub just : (p : List ℕ) → List·Memᴰ p ps ↔ (Open table p × ((p ≡ q) ⊎ Sooner p q))
-  pub inOrder : InOrder ps
-
--- there is only one such list, and so only one number of them
-pub up-to-unique : (table : List JobRecord) (q : List ℕ) (ps rs : List (List ℕ)) → UpTo table q ps → UpTo table q rs → ps ≡ rs
-up-to-unique table q ps rs a b = in-order-same ps rs (a .inOrder) (b .inOrder) (λ p. (λ m. b .just p .1 (a .just p .0 m), λ m. a .just p .1 (b .just p .0 m)))
 
 module _ (table : List JobRecord) (sound : Sound table) where
   -- the open sequences, as they are listed
@@ -167,30 +157,6 @@ module _ (table : List JobRecord) (sound : Sound table) where
         step other f (inl m) = absurd (every-member (λ p. Full table p → ⊥) none-before other m f)
         step other f (inr m) = later other (List·Memᴰ·cases-cons m)
 
-    -- said without the list: the openings are as many as the open sequences that stand before the schedule, and it
-    pub schedule-up-to : (ps : List (List ℕ)) × UpTo table q ps × (openings table ≡ length ps)
-    schedule-up-to = (
-      around .before ++ q ∷ [],
-      record {
-        just = λ p. (λ m. there p (List·Memᴰ·append-cases (around .before) m), λ h. back p (h .1) (parts p (h .0)));
-        inOrder = in-order-front (around .before ++ q ∷ []) (around .after) (rw append-snoc ordered);
-      },
-      omega (arith, counted-before, length-append (around .before) (q ∷ [])),
-    )
-      where
-        there : (p : List ℕ) → List·Memᴰ p (around .before) ⊎ List·Memᴰ p (q ∷ []) → Open table p × ((p ≡ q) ⊎ Sooner p q)
-        there p (inl m) = (is-open p (earlier p m), inr (in-order-between (around .before) q (around .after) ordered p m))
-        there p (inr m) = let same = List·Memᴰ·eq-of-singleton m in (rw same (schedule-first .isOpen), inl same)
-
-        not-later : (p : List ℕ) → Sooner p q → (p ≡ q) ⊎ List·Memᴰ p (around .after) → ⊥
-        not-later p h (inl e) = let itself : Sooner q q = rw e at h in before-one-way itself itself
-        not-later p h (inr m) = before-one-way h (every-member (Sooner q) (in-order-after (around .before) q (around .after) ordered) p m)
-
-        back : (p : List ℕ) → (p ≡ q) ⊎ Sooner p q → List·Memᴰ p (around .before) ⊎ List·Memᴰ p (q ∷ around .after) → List·Memᴰ p (around .before ++ q ∷ [])
-        back p (inl e) place = Memᴰ·append-right (around .before) (List·Memᴰ·head e)
-        back p (inr h) (inl m) = Memᴰ·append-left (q ∷ []) m
-        back p (inr h) (inr m) = absurd (not-later p h (List·Memᴰ·cases-cons m))
-
   -- there is a schedule exactly when there is a first open sequence that holds all jobs, and it is that one
   pub schedule-means : (q : List ℕ) → (schedule table ≡ some q) ↔ First table q
   schedule-means q = (schedule-first q, λ f. step f (schedule table) refl)
@@ -198,3 +164,15 @@ module _ (table : List JobRecord) (sound : Sound table) where
       step : First table q → (o : Option (List ℕ)) → schedule table ≡ o → schedule table ≡ some q
       step f none e = absurd (schedule-none e .0 q (f .isOpen) (f .isFull))
       step f (some p) e = e ∙ ap some (first-unique table p q (schedule-first p e) f)
+
+  -- the openings where there is a first: of the list of just the open sequences, those before it, and it
+  pub openings-first : (q : List ℕ) → First table q → (earlier : List (List ℕ)) × (later : List (List ℕ)) × Lists table (earlier ++ q ∷ later) × (openings table ≡ length earlier + 1)
+  openings-first q f = let r = schedule-openings q (schedule-means q .1 f) in (r .before, r .after, rw (r .whole) at listed, r .counted)
+
+  -- the openings where there is none: all open sequences
+  pub openings-all : ((q : List ℕ) → Open table q → Full table q → ⊥) → (qs : List (List ℕ)) → Lists table qs → openings table ≡ length qs
+  openings-all h qs all = step (schedule table) refl
+    where
+      step : (o : Option (List ℕ)) → schedule table ≡ o → openings table ≡ length qs
+      step none e = schedule-none e .1 ∙ ap length (lists-unique table (openSequences table) qs listed all)
+      step (some q) e = let f = schedule-first q e in absurd (h q (f .isOpen) (f .isFull))

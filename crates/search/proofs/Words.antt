@@ -1,14 +1,15 @@
 -- The order of words, and lists of sequences in that order. Two words that begin alike are compared where they go on;
--- a list is in order if its two halves are, and each sequence of the first stands before each of the second.
+-- a list is in order if its two halves are, and each sequence of the first stands before each of the second. Of two words only one stands before the other, so that
+-- one list at most holds given sequences in order.
 use Prim.Native.Nat.{ℕ, _<_}
 use native.Mathlib.Omega.{arith}
 use mathlib.Core.List.{List, [], _∷_, _++_, reverse, reverse-cons, append-nil}
-use mathlib.Core.List.{List·Memᴰ, List·Memᴰ·head, List·Memᴰ·tail, List·Memᴰ·not-nil, List·Memᴰ·cases-cons, Memᴰ·append-left, Memᴰ·append-right}
+use mathlib.Core.List.{List·Memᴰ, List·Memᴰ·head, List·Memᴰ·tail, List·Memᴰ·not-nil, List·Memᴰ·cases-cons}
 use mathlib.Core.Logic.{_↔_, _⊎_, inl, inr}
 use mathlib.Core.Path.{_≡_, refl, ap, ap₂, sym, _∙_}
 use lib.Seq.{append-snoc}
 use Rattle.laws.specs.Lists.{Every}
-use Rattle.laws.proofs.Members.{every-member, member-every}
+use Rattle.laws.proofs.Members.{every-member}
 use Rattle.laws.proofs.Parts.{every-append}
 use Rattle.search.specs.Order.{Before, beginning, differs, same, InOrder}
 
@@ -58,20 +59,6 @@ in-order-append (p ∷ ps) qs h k between = (every-append (Sooner p) ps qs (h .0
 pub in-order-after : (before : List (List ℕ)) (q : List ℕ) (after : List (List ℕ)) → InOrder (before ++ q ∷ after) → Every (Sooner q) after
 in-order-after [] q after h = h .0
 in-order-after (p ∷ before) q after h = in-order-after before q after (h .1)
-
--- and after those before it
-pub in-order-between : (before : List (List ℕ)) (q : List ℕ) (after : List (List ℕ)) → InOrder (before ++ q ∷ after) → (p : List ℕ) → List·Memᴰ p before → Sooner p q
-in-order-between [] q after h p m = absurd (List·Memᴰ·not-nil m)
-in-order-between (r ∷ before) q after h p m = step (List·Memᴰ·cases-cons m) (in-order-between before q after (h .1) p)
-  where
-    step : (p ≡ r) ⊎ List·Memᴰ p before → (List·Memᴰ p before → Sooner p q) → Sooner p q
-    step (inl e) below = rw e (every-member (Sooner r) (h .0) q (Memᴰ·append-right before (List·Memᴰ·head refl)))
-    step (inr m) below = below m
-
--- the front of a list in order is in order
-pub in-order-front : (ps qs : List (List ℕ)) → InOrder (ps ++ qs) → InOrder ps
-in-order-front [] qs h = tt
-in-order-front (p ∷ ps) qs h = (member-every (Sooner p) ps (λ r m. every-member (Sooner p) (h .0) r (Memᴰ·append-left qs m)), in-order-front ps qs (h .1))
 
 -- lists in order that hold the same sequences are equal
 pub in-order-same : (ps qs : List (List ℕ)) → InOrder ps → InOrder qs → ((r : List ℕ) → List·Memᴰ r ps ↔ List·Memᴰ r qs) → ps ≡ qs
