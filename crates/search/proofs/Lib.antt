@@ -9,3 +9,6 @@ pub mod Schedules
 pub mod Running
 pub mod Existence
 pub mod Feasibility
+pub mod NormalFeasible
+pub mod Given
+pub mod Demands
