@@ -1,9 +1,9 @@
 -- 01's four bad tools break a promise, each at a named case: the promise at that case computes to something they do not do. Assumes nothing.
 use Prim.Native.Nat.{ℕ}
 use mathlib.Core.Path.{_≡_, refl, sym, _∙_, ap}
-use mathlib.Core.List.{List, []}
+use mathlib.Core.List.{List, [], _∷_}
 use native.Mathlib.Omega.{arith}
-use lib.ListN.{getD, replicate}
+use lib.ListN.{getD, drop, replicate}
 use Rattle.cases.specs.Case.{jobs}
 use Rattle.cases.specs.Starred.{tableC, tableD, tableF, normalG, tableI}
 use Rattle.cases.proofs.Computes.{computes as cases}
@@ -42,3 +42,10 @@ pub invents-openings : {a b : Scheduled} {x y : List ℕ}
     → (a .number ≡ 10) × (a .openings ≡ 1) × (b .number ≡ 11)
 unfolding cases search
 invents-openings one none = (one .number, one .openings, none .number)
+
+-- one that touches more than it writes: what stands behind the records is left, and at a refusal all of it
+pub touches-more : {a b : Scheduled} {x y : List ℕ}
+    → SchedulePromise (jobs (tableC 3)) 2 (replicate 14 9) a x → SchedulePromise (jobs (tableC 4)) 2 (replicate 14 9) b y
+    → (drop 12 x ≡ 9 ∷ 9 ∷ []) × (y ≡ replicate 14 9)
+unfolding cases search
+touches-more done refused = (ap (drop 12) (done .output), refused .output)

@@ -2,7 +2,7 @@
 use Prim.Native.Nat.{ℕ}
 use mathlib.Core.List.{List, [], _∷_}
 use Rattle.records.specs.declared.JobRecord.{JobRecord}
-use Rattle.cases.specs.Case.{Case, normalising, scheduling, expands, normalises, schedules, refuses, p, f, j, l, s, jobs}
+use Rattle.cases.specs.Case.{Case, normalising, scheduling, expands, normalises, schedules, refuses, j, l, s, jobs}
 
 -- the tables of the cases, by letter; B is "the table above", the example of the print program
 abbrev pub exampleJobs : List JobRecord

@@ -15,7 +15,7 @@ use Rattle.records.specs.declared.JobRecord.{JobRecord}
 use Rattle.jobs.specs.Judge.{Sound}
 use Rattle.jobs.specs.Jobs.{numbers}
 use Rattle.search.specs.Tree.{openSequences, full, firstFull, upToFull, schedule, openings}
-use Rattle.search.specs.Order.{Open, Full, First, InOrder, Lists}
+use Rattle.search.specs.Order.{Open, Full, First, InOrder, Lists, Openings, upTo}
 use Rattle.search.proofs.Words.{Sooner, before-one-way, in-order-after}
 use Rattle.search.proofs.Rest.{full-means}
 use Rattle.search.proofs.Opening.{lists-open, lists-unique}
@@ -176,3 +176,14 @@ module _ (table : List JobRecord) (sound : Sound table) where
       step : (o : Option (List ℕ)) → schedule table ≡ o → openings table ≡ length qs
       step none e = schedule-none e .1 ∙ ap length (lists-unique table (openSequences table) qs listed all)
       step (some q) e = let f = schedule-first q e in absurd (h q (f .isOpen) (f .isFull))
+
+  -- the openings are those of 01, in plain words
+  pub openings-right : Openings table (openings table)
+  openings-right = step (schedule table) refl
+    where
+      step : (o : Option (List ℕ)) → schedule table ≡ o → Openings table (openings table)
+      step none e = rw (schedule-none e .1) (Openings.all (schedule-none e .0) listed)
+      step (some q) e =
+          let f = schedule-first q e in
+          let r = openings-first q f in
+          rw (r .3) (upTo (r .0) (r .1) f (r .2))
