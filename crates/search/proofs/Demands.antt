@@ -1,12 +1,12 @@
 -- Demand 2 on bytes, and what demand 3 says of scheduling. A call that 1 to 9 do not refuse searches the normal form, and comes out in one of three ways: the budget is spent, no starts
 -- are feasible, or the first sequence is given. Each number stands for one of the three, so it is given exactly when that way's facts hold. A normal form is searched as its own normal form.
-use Prim.Native.Nat.{ℕ, _+_, _*_, _-_, _<_, _≤_}
+use Prim.Native.Nat.{ℕ, _*_, _-_, _<_, _≤_}
 use native.Mathlib.Omega.{arith}
 use mathlib.Core.Bool.{Bool, true, false}
 use mathlib.Core.Path.{_≡_, refl, ap, sym, _∙_}
 use mathlib.Core.Logic.{_↔_}
 use mathlib.Core.Option.{Option, none, some}
-use mathlib.Core.List.{List, _∷_, _++_}
+use mathlib.Core.List.{List}
 use borrow.Author.Tests.{ltb-true, ltb-false, le-ltb}
 use lib.Dec.{ltb}
 use lib.ListN.{length}
@@ -27,10 +27,10 @@ use Rattle.normal.proofs.Canonical.{idempotent}
 use Rattle.normal.proofs.CanonicalBytes.{Accepted, accepted-later, later-accepted, normal-table, normal-accepted}
 use Rattle.search.specs.Run.{endIn, run}
 use Rattle.search.specs.Tree.{schedule, openings}
-use Rattle.search.specs.Order.{Open, Full, First, Lists}
+use Rattle.search.specs.Order.{First, Openings}
 use Rattle.search.specs.Call.{scheduleNumber, slotsBytes, decided, searched, scheduled}
-use Rattle.search.proofs.Schedules.{schedule-first, openings-first, openings-all}
-use Rattle.search.proofs.Feasibility.{run-feasible, none-feasible}
+use Rattle.search.proofs.Schedules.{schedule-first, openings-right}
+use Rattle.search.proofs.Feasibility.{none-feasible}
 use Rattle.search.proofs.NormalFeasible.{feasible-same}
 use Rattle.search.proofs.Given.{startGiven, first-feasible, first-fits}
 
@@ -136,32 +136,17 @@ module _ (bytes : List ℕ) (budget room : ℕ) (passed : scheduleNumber bytes r
       means (nothing h impossible) = (λ e. absurd (omega arith), λ r. absurd (omega arith))
       means (given h f) = (λ e. absurd (omega arith), λ r. absurd (omega arith))
 
-  -- "The count of openings equals its definition": with a schedule, the open sequences up to and including it
-  pub demand-2-count : scheduled bytes budget room .number ≡ 0
-      → (q : List ℕ) × First (normalOf bytes) q × (earlier : List (List ℕ)) × (later : List (List ℕ)) × Lists (normalOf bytes) (earlier ++ q ∷ later)
-      × (scheduled bytes budget room .openings ≡ length earlier + 1)
-  demand-2-count e =
-      let r = demand-2-first e in
-      let c = openings-first (normalOf bytes) sound (r .0) (r .1) in
-      (r .0, r .1, c .0, c .1, c .2, r .3 ∙ c .3)
-
-  -- without one, all open sequences
-  pub demand-2-count-all : scheduled bytes budget room .number ≡ 10
-      → (scheduled bytes budget room .openings ≡ openings (normalOf bytes))
-      × ((qs : List (List ℕ)) → Lists (normalOf bytes) qs → scheduled bytes budget room .openings ≡ length qs)
-  demand-2-count-all e =
-      let counted = means scheduled-comes e in
-      (counted, λ qs all. counted ∙ openings-all (normalOf bytes) sound none-full qs all)
+  -- "The count of openings equals its definition", unless the budget is spent
+  pub demand-2-count : (scheduled bytes budget room .number ≡ 11 → ⊥)
+      → (scheduled bytes budget room .openings ≡ openings (normalOf bytes)) × Openings (normalOf bytes) (scheduled bytes budget room .openings)
+  demand-2-count other = let counted = means scheduled-comes other in (counted, rw counted (openings-right (normalOf bytes) sound))
     where
-      none-full : (q : List ℕ) → Open (normalOf bytes) q → Full (normalOf bytes) q → ⊥
-      none-full q o f = demand-2-none .0 e .0 _ (feasible-same (accepted .normalisable) _ .1 (run-feasible (normalOf bytes) sound q o f))
+      means : {o : Outcome} → Comes (jobTable bytes) budget o → (o .number ≡ 11 → ⊥) → o .openings ≡ openings (normalOf bytes)
+      means (spent h) other = absurd (other refl)
+      means (nothing h impossible) other = refl
+      means (given h f) other = refl
 
-      means : {o : Outcome} → Comes (jobTable bytes) budget o → o .number ≡ 10 → o .openings ≡ openings (normalOf bytes)
-      means (spent h) e = absurd (omega arith)
-      means (nothing h impossible) e = refl
-      means (given h f) e = absurd (omega arith)
-
-  -- and when the budget is spent, the budget
+  -- and then it is the budget
   pub demand-2-count-spent : scheduled bytes budget room .number ≡ 11 → scheduled bytes budget room .openings ≡ budget
   demand-2-count-spent = means scheduled-comes
     where

@@ -9,6 +9,7 @@ pub mod Schedules
 pub mod Running
 pub mod Existence
 pub mod Feasibility
+pub mod Counts
 pub mod NormalFeasible
 pub mod Given
 pub mod Demands
