@@ -49,6 +49,7 @@ pub record Windows : Type 0 where
   pub earliest : List ℕ
   pub latest : List ℕ
 
+-- the windows of a table, from its square of gaps
 unfoldable pub windows : List JobRecord → Square → Windows
 windows table square = record {
   earliest = map (earliestOf table square) (count 0 48);
