@@ -28,7 +28,7 @@ enum {
     ARGILOSCO_RING = 7,        /* the links form a ring */
     ARGILOSCO_WINDOW = 8,      /* no start times meet windows and links, even with overlap */
     ARGILOSCO_ROOM = 9,        /* output too short */
-    ARGILOSCO_NO_SCHEDULE = 10,/* no schedule on one core */
+    ARGILOSCO_NO_SCHEDULE = 10, /* no schedule on one core */
     ARGILOSCO_SPENT = 11       /* budget spent */
 };
 

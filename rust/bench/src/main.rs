@@ -21,13 +21,13 @@ fn main() {
     if EXPAND.is_on() {
         let long = [&passes[..], &vec![flow(0, 1, 9); 4096 - passes.len()]].concat();
         ratio(EXPAND, "48 jobs and 64 flows", &passes.concat(), 0);
-        ratio(EXPAND, "4,096 records, the last one wrong", &late(long, flow(0, 9, 0)), 5);
-        worst_stack(EXPAND, &[passes]);
+        ratio(EXPAND, "4,096 records, the last one wrong", &late(long.clone(), flow(0, 9, 0)), 5);
+        worst_stack(EXPAND, &[passes, long]);
     }
     if NORMALISE.is_on() {
         ratio(NORMALISE, "48 jobs and 1,128 links", &dense.concat(), 0);
         ratio(NORMALISE, "4,096 records, the last one wrong", &late(full.clone(), link(0, 200, 0)), 5);
-        worst_stack(NORMALISE, &[dense.clone(), full]);
+        worst_stack(NORMALISE, &[dense.clone(), full, tables::chain(&mut r)]);
     }
     if SCHEDULE.is_on() {
         search_ratio(&knot().concat());
@@ -43,11 +43,12 @@ fn full_passes() -> Vec<Record> {
     table
 }
 
-/// 48 jobs that may run in any order, and 48 that only run by falling number.
+/// 48 jobs that may run in any order.
 fn wide() -> Vec<Record> {
     (0..48).map(|number| job(number, 1, 0, 48_000)).collect()
 }
 
+/// 48 jobs that can only run by falling number.
 fn falling() -> Vec<Record> {
     (0..48).map(|number| job(number, 1, 0, 48 - i64::from(number))).collect()
 }

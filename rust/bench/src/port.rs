@@ -77,7 +77,7 @@ impl Port {
         Found::None
     }
 
-    /// The state with a job run next, if it can be: it ends by its deadline or the state is not live.
+    /// The state with a job run next; none if it has run, waits for another one or would end late.
     fn place(&self, mut state: State, job: usize) -> Option<State> {
         if state.placed[job] {
             return None;

@@ -43,11 +43,11 @@ impl Check {
         let needed = match answer.number {
             0 => answer.output.len(),
             10 | 11 => 12 * table.chunks(12).filter(|record| record[0] == b'J').count(),
-            _ => 0,
+            _ => self.random.place(2000),
         };
         let more = if self.random.once_in(2) { 0 } else { self.random.place(100) };
         self.at(table, budget, needed + more, &answer);
-        if needed > 0 {
+        if needed > 0 && matches!(answer.number, 0 | 10 | 11) {
             self.tally[9] += 1;
             let short = (self.call.second)(table, budget, needed - 1);
             self.at(table, budget, needed - 1, &short);
@@ -70,4 +70,11 @@ impl Check {
             panic!("{}: number {number} came fewer than 1000 times", self.call.name);
         }
     }
+}
+
+/// The answer on which the second program and the library agree.
+pub fn agreed(call: Call, table: &[u8], budget: u32, room: usize) -> Answer {
+    let answer = (call.second)(table, budget, room);
+    Check::new(call, 1).at(table, budget, room, &answer);
+    answer
 }

@@ -115,8 +115,10 @@ fn scheduling(check: &mut Check) {
             let budget = check.random.between(0, 200) as u32;
             check.rooms(&table, budget);
         } else {
-            let (span, longest) = check.random.pick(&[(6, 3), (12, 4), (30, 9)]);
-            let table = tables::jobs(&mut check.random, 6, span, longest);
+            let table = match check.random.pick(&[(0, 0), (0, 0), (4, 3), (12, 4), (30, 9)]) {
+                (0, _) => tables::knot(&mut check.random),
+                (span, longest) => tables::jobs(&mut check.random, 7, span, longest),
+            };
             let table = bytes(&mut check.random, table);
             budgets(check, &table);
         }

@@ -44,14 +44,17 @@ pub fn passes(r: &mut Random) -> Vec<Record> {
     table
 }
 
-/// A job table built around planned starts, so that its windows and links are just possible;
-/// now and then they are just not, or the links form a ring.
+/// A job table built around planned starts, half of the time one job after another, so that its windows
+/// and links are just possible; now and then they are just not, or the links form a ring.
 pub fn jobs(r: &mut Random, most: i64, span: i64, longest: i64) -> Vec<Record> {
     let count = r.between(0, most);
     let numbers = r.numbers(48, count as usize);
+    let costs: Vec<i64> = numbers.iter().map(|_| r.between(1, longest)).collect();
     let mut starts: Vec<i64> = numbers.iter().map(|_| r.between(0, span)).collect();
     starts.sort();
-    let costs: Vec<i64> = numbers.iter().map(|_| r.between(1, longest)).collect();
+    if r.once_in(2) {
+        (1..starts.len()).for_each(|i| starts[i] = starts[i].max(starts[i - 1] + costs[i - 1]));
+    }
     let slack = r.pick(&[0, 1, 4, span]);
     let mut table = Vec::new();
     for i in 0..numbers.len() {
@@ -77,6 +80,23 @@ pub fn jobs(r: &mut Random, most: i64, span: i64, longest: i64) -> Vec<Record> {
         }
     }
     r.shuffle(&mut table);
+    table
+}
+
+/// Wide jobs around two narrow ones with hardly a tick to spare: the search has to go back often.
+pub fn knot(r: &mut Random) -> Vec<Record> {
+    let jobs: Vec<(u8, i64)> = r.numbers(48, 7).into_iter().map(|number| (number, r.between(1, 4))).collect();
+    let jobs = &jobs[..r.between(4, 7) as usize];
+    let end = jobs.iter().map(|(_, cost)| cost).sum::<i64>() + r.between(0, 2);
+    let narrow = |r: &mut Random, (number, cost)| {
+        let release = r.between(0, end - cost);
+        job(number, cost, release, end.min(release + cost + r.between(0, 2)))
+    };
+    let mut table = vec![narrow(r, jobs[0]), narrow(r, jobs[1])];
+    table.extend(jobs[2..].iter().map(|&(number, cost)| job(number, cost, 0, end)));
+    if r.once_in(3) {
+        table.push(link(jobs[2].0, jobs[3].0, r.between(0, 3)));
+    }
     table
 }
 
@@ -108,7 +128,7 @@ pub fn full(r: &mut Random) -> Vec<Record> {
     table
 }
 
-/// A sound table's bytes made longer to so many records by repeating one of its last.
+/// A table made longer, to so many records, by repeating its first or its last one by kind.
 pub fn lengthen(r: &mut Random, mut table: Vec<Record>, count: usize) -> Vec<Record> {
     table.sort();
     let again = if r.once_in(2) { table.first() } else { table.last() };

@@ -1,21 +1,13 @@
-//! 01's cases A to L, the rows that tell misreadings apart, and both sides of each refusal, asked of
-//! the second program and of every library call that is switched on. Every expected value is written
-//! by hand from 01.
+//! 01's cases A to L and the rows that tell misreadings apart, asked of the second program and of every
+//! library call that is switched on. Every expected value is written by hand from 01.
 
-use compare::calls::{Call, EXPAND, NORMALISE, SCHEDULE};
-use compare::check::Check;
+use compare::calls::{EXPAND, NORMALISE, SCHEDULE};
+use compare::check::agreed;
 use second::records::{flow, job, link, pass, slot, Record};
 use second::Answer;
 
 const ROOM: usize = 49_152;
 const BUDGET: u32 = 100_000;
-
-/// The answer on which the second program and the library agree.
-fn agreed(call: Call, table: &[u8], budget: u32, room: usize) -> Answer {
-    let answer = (call.second)(table, budget, room);
-    Check::new(call, 1).at(table, budget, room, &answer);
-    answer
-}
 
 fn expand(table: &[u8], room: usize) -> Answer {
     agreed(EXPAND, table, 0, room)
@@ -229,133 +221,4 @@ fn instances_link_at_equal_times() {
 #[test]
 fn deadline_counts_from_the_phase() {
     expands(&[pass(0, 9, 10, 3, 4)], &[job(0, 9, 3, 7)]);
-}
-
-/// A record with one byte changed.
-fn with(mut record: Record, at: usize, byte: u8) -> Record {
-    record[at] = byte;
-    record
-}
-
-#[test]
-fn refusal_1_length() {
-    let long = [&[pass(0, 1, 1, 0, 1), pass(1, 1, 1, 0, 1)][..], &vec![flow(0, 1, 0); 4095]].concat();
-    refuses_passes(&long[..4096], 6);
-    refuses_passes(&long, 1);
-    let jobs = [job(0, 1, 0, 99), job(1, 1, 0, 99)];
-    let long = [&jobs[..], &vec![link(0, 1, 0); 4095]].concat();
-    normal(&long[..4096], &[job(0, 1, 0, 98), job(1, 1, 1, 99), link(0, 1, 0)]);
-    refuses_jobs(&long, 1);
-    for length in [1, 11, 13, 23] {
-        assert_eq!(expand(&long.concat()[..length], ROOM), refused(1, 0));
-        assert_eq!(schedule(&long.concat()[..length], BUDGET, ROOM), refused(1, 0));
-    }
-}
-
-#[test]
-fn refusal_2_kinds_and_zeros() {
-    let passes = [pass(0, 1, 1, 0, 1), pass(1, 1, 1, 0, 1), flow(0, 1, 0)];
-    let jobs = [job(0, 1, 0, 9), job(1, 1, 0, 9), link(0, 1, 0)];
-    expands(&passes, &[job(0, 1, 0, 1), job(1, 1, 0, 1), link(0, 1, 0)]);
-    normal(&jobs, &[job(0, 1, 0, 8), job(1, 1, 1, 9), link(0, 1, 0)]);
-    for kind in *b"JLSpf\0" {
-        refuses_passes(&[with(passes[0], 0, kind), passes[1]], 2);
-    }
-    for kind in *b"PFSjl\0" {
-        refuses_jobs(&[with(jobs[0], 0, kind), jobs[1]], 2);
-    }
-    for at in 3..12 {
-        let (flow_z, job_z) = (at == 3 || at > 5, at > 7);
-        assert_eq!(
-            expand(&[passes[0], passes[1], with(passes[2], at, 1)].concat(), ROOM).number == 2,
-            flow_z
-        );
-        assert_eq!(expand(&with(passes[0], at, 1), ROOM).number == 2, at > 9);
-        assert_eq!(normalise(&[jobs[0], jobs[1], with(jobs[2], at, 1)].concat(), ROOM).number == 2, flow_z);
-        assert_eq!(normalise(&with(jobs[0], at, 1), ROOM).number == 2, job_z);
-    }
-}
-
-#[test]
-fn refusal_3_numbers() {
-    expands(&[pass(23, 1, 1, 0, 1)], &[job(0, 1, 0, 1)]);
-    refuses_passes(&[pass(24, 1, 1, 0, 1)], 3);
-    refuses_passes(&[pass(5, 1, 1, 0, 1), pass(5, 1, 1, 0, 1)], 3);
-    refuses_jobs(&[job(5, 1, 0, 9), job(5, 1, 0, 9)], 3);
-}
-
-#[test]
-fn refusal_4_values() {
-    let two = [pass(0, 65_535, 48_000, 0, 0), pass(1, 1, 48_000, 48_000, 0)];
-    let jobs = [job(0, 65_535, 0, 0), job(1, 1, 48_000, 48_000)];
-    expands(&[two[0], two[1], flow(0, 1, 48_000)], &[jobs[0], jobs[1], link(0, 1, 48_000)]);
-    refuses_passes(&[two[0], two[1], flow(0, 1, 48_001)], 4);
-    refuses_passes(&[pass(0, 0, 1, 0, 1)], 4);
-    refuses_passes(&[pass(0, 1, 0, 0, 0)], 4);
-    refuses_passes(&[pass(0, 1, 1, 65_535, 1)], 4);
-    refuses_passes(&[pass(0, 1, 65_535, 65_535, 65_535)], 4);
-    normal(&[job(0, 1, 47_999, 48_000)], &[job(0, 1, 47_999, 48_000)]);
-    refuses_jobs(&[job(0, 1, 0, 48_001)], 4);
-    refuses_jobs(&[job(0, 0, 0, 9)], 4);
-    refuses_jobs(&[job(0, 1, 65_535, 48_000)], 8);
-    refuses_jobs(&[job(0, 1, 0, 0)], 8);
-    refuses_jobs(&[job(0, 1, 0, 9), job(1, 1, 0, 48_000), link(0, 1, 48_000)], 8);
-    refuses_jobs(&[job(0, 1, 0, 9), job(1, 1, 0, 48_000), link(0, 1, 48_001)], 4);
-}
-
-#[test]
-fn refusal_5_names() {
-    let passes = [pass(0, 1, 1, 0, 1), pass(1, 1, 1, 0, 1)];
-    for (from, to) in [(0, 0), (0, 2), (2, 0), (0, 200), (255, 1)] {
-        refuses_passes(&[passes[0], flow(from, to, 0), passes[1]], 5);
-        refuses_jobs(&[job(0, 1, 0, 9), link(from, to, 0), job(1, 1, 0, 9)], 5);
-    }
-}
-
-#[test]
-fn refusal_6_flows() {
-    let passes = [pass(0, 1, 1, 0, 1), pass(1, 1, 1, 0, 1)];
-    let with = |count: usize| [&passes[..], &vec![flow(1, 0, 3); count]].concat();
-    let jobs = [job(0, 1, 0, 1), job(1, 1, 0, 1)];
-    expands(&with(64), &[&jobs[..], &vec![link(1, 0, 3); 64]].concat());
-    refuses_passes(&with(65), 6);
-    let primes = [43, 41, 37, 31].map(|period| pass(period as u8 - 30, 1, period, 0, 1));
-    refuses_passes(&primes, 6);
-}
-
-#[test]
-fn refusals_7_and_8_rings_and_windows() {
-    let jobs = [job(0, 1, 0, 9), job(1, 1, 0, 9), job(2, 1, 0, 9)];
-    let around = [link(0, 1, 0), link(1, 2, 0), link(2, 0, 0)];
-    refuses_jobs(&[&jobs[..], &around].concat(), 7);
-    let windows = [job(0, 1, 0, 1), job(1, 1, 4, 5), job(2, 1, 8, 9)];
-    normal(&[&jobs[..], &[link(0, 1, 3), link(1, 2, 3)]].concat(), &windows);
-    refuses_jobs(&[&jobs[..], &[link(0, 1, 3), link(1, 2, 4)]].concat(), 8);
-}
-
-#[test]
-fn refusal_9_room() {
-    let passes = [pass(0, 1, 1, 0, 1), pass(1, 1, 1, 0, 1), flow(0, 1, 0)].concat();
-    let jobs = [job(0, 1, 0, 9), job(1, 1, 0, 9), link(0, 1, 0)].concat();
-    for (answer, short) in [
-        (expand(&passes, 36), expand(&passes, 35)),
-        (normalise(&jobs, 36), normalise(&jobs, 35)),
-        (schedule(&jobs, 3, 24), schedule(&jobs, 3, 23)),
-    ] {
-        assert_eq!((answer.number, short.number), (0, 9));
-    }
-}
-
-#[test]
-fn lowest_number_is_given() {
-    let unread = [b'X'; 12];
-    refuses_passes(&[pass(24, 0, 0, 0, 0), unread], 2);
-    refuses_passes(&[flow(0, 0, 0), pass(0, 0, 1, 0, 0), pass(24, 1, 1, 0, 0)], 3);
-    refuses_passes(&[flow(0, 0, 48_001), pass(0, 1, 1, 0, 0)], 4);
-    refuses_passes(&[flow(0, 7, 0), pass(0, 1, 48_001, 0, 0)], 5);
-    refuses_jobs(&[link(0, 1, 0), link(1, 0, 0), job(0, 9, 0, 1), job(1, 1, 0, 1)], 7);
-    assert_eq!(expand(&pass(0, 1, 48_001, 0, 0), 0), refused(6, 0));
-    assert_eq!(normalise(&job(0, 2, 0, 1), 0), refused(8, 0));
-    assert_eq!(normalise(&job(0, 1, 0, 1), 11), refused(9, 0));
-    assert_eq!(schedule(&job(0, 1, 0, 1), 0, 11), refused(9, 0));
 }
