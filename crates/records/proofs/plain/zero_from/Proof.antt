@@ -1,4 +1,4 @@
--- `records::read::zero_from` meets its contract. The loop's invariant: the bytes from k are zero exactly when those from i are.
+-- `records::plain::zero_from` meets its contract. The loop's invariant: the bytes from k are zero exactly when those from i are.
 -- Assumes nothing.
 use Prim.Native.Nat.{ℕ, _≤_, _+_, _-_}
 use mathlib.Core.Path.{_≡_, ap, sym}
@@ -8,10 +8,10 @@ use native.Mathlib.Omega.{arith}
 use Rattle.records.specs.Bytes.{zeros, bytesFrom}
 use native.Mathlib.Nat.{add-sub-cancel-left}
 use Rattle.records.proofs.Zeros.{zeros-step, zeros-fail, zeros-end}
-use Rattle.records.proofs.read.zero_from.Statement.{statement}
-use Rattle.records.proofs.read.zero_from.Tie as tie
-use Rattle.records.proofs.read.zero_from.Reads as reads
-use Rattle.records.proofs.read.zero_from.Lts as lts
+use Rattle.records.proofs.plain.zero_from.Statement.{statement}
+use Rattle.records.proofs.plain.zero_from.Tie as tie
+use Rattle.records.proofs.plain.zero_from.Reads as reads
+use Rattle.records.proofs.plain.zero_from.Lts as lts
 
 abbrev Inv-loop : tie.InvT-loop
 Inv-loop s at k n end i₀ i =

@@ -1,14 +1,14 @@
--- `records::read::pass_at` meets its contract: what `zero_from` says of the z bytes picks the case of `readPass`. Assumes nothing.
+-- `records::plain::pass_at` meets its contract: what `zero_from` says of the z bytes picks the case of `readPass`. Assumes nothing.
 use mathlib.Core.Path.{_∙_, sym}
 use borrow.Author.Needs.{needs}
 use borrow.Author.Tests.{not-true, not-false}
 use Rattle.records.specs.Record.{readPass}
-use Rattle.records.proofs.read.pass_at.Statement.{statement}
-use Rattle.records.proofs.read.pass_at.Tie as tie
-use Rattle.records.proofs.read.pass_at.Reads as reads
-use Rattle.records.proofs.read.pass_at.Lts as lts
-use Rattle.records.proofs.read.word_at.Reads as word-at-reads
-use Rattle.records.proofs.read.zero_from.Reads as zero-from-reads
+use Rattle.records.proofs.plain.pass_at.Statement.{statement}
+use Rattle.records.proofs.plain.pass_at.Tie as tie
+use Rattle.records.proofs.plain.pass_at.Reads as reads
+use Rattle.records.proofs.plain.pass_at.Lts as lts
+use Rattle.records.proofs.plain.word_at.Reads as word-at-reads
+use Rattle.records.proofs.plain.zero_from.Reads as zero-from-reads
 
 zero-from-requires : tie.Need-zero-from-requires
 zero-from-requires c κs = search needs

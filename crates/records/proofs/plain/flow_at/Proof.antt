@@ -1,27 +1,27 @@
--- `records::read::link_at` meets its contract: what `zero_from` says of the z bytes picks the case of `readLink`. Assumes nothing.
+-- `records::plain::flow_at` meets its contract: what `zero_from` says of the z bytes picks the case of `readFlow`. Assumes nothing.
 use mathlib.Core.Path.{_∙_, sym}
 use borrow.Author.Needs.{needs}
 use borrow.Author.Tests.{not-true, not-false}
-use Rattle.records.specs.Record.{readLink}
-use Rattle.records.proofs.read.link_at.Statement.{statement}
-use Rattle.records.proofs.read.link_at.Tie as tie
-use Rattle.records.proofs.read.link_at.Reads as reads
-use Rattle.records.proofs.read.link_at.Lts as lts
-use Rattle.records.proofs.read.word_at.Reads as word-at-reads
-use Rattle.records.proofs.read.zero_from.Reads as zero-from-reads
+use Rattle.records.specs.Record.{readFlow}
+use Rattle.records.proofs.plain.flow_at.Statement.{statement}
+use Rattle.records.proofs.plain.flow_at.Tie as tie
+use Rattle.records.proofs.plain.flow_at.Reads as reads
+use Rattle.records.proofs.plain.flow_at.Lts as lts
+use Rattle.records.proofs.plain.word_at.Reads as word-at-reads
+use Rattle.records.proofs.plain.zero_from.Reads as zero-from-reads
 
 zero-from-requires : tie.Need-zero-from-requires
 zero-from-requires c κs = search needs
 
 returns : tie.Need-returns
-unfolding readLink
+unfolding readFlow
 returns c = rw (sym (c .before .zero-from .ensures) ∙ not-true _ (c .if1 .taken))
 
 zero-from-requires-2 : tie.Need-zero-from-requires-2
 zero-from-requires-2 c κs = search needs
 
 returns-2 : tie.Need-returns-2
-unfolding readLink
+unfolding readFlow
 returns-2 c =
     rw (sym (c .before .before .before .zero-from .ensures) ∙ not-false _ (c .before .before .if1 .left), sym (c .before .zero-from2 .ensures) ∙ not-true _ (c .if2 .taken))
 
@@ -41,12 +41,12 @@ word-at-requires : tie.Need-word-at-requires
 word-at-requires c κs = search needs
 
 returns-3 : tie.Need-returns-3
-unfolding readLink
+unfolding readFlow
 returns-3 c =
     rw (sym (c .before .before .before .before .before .before .zero-from .ensures) ∙ not-false _ (c .before .before .before .before .before .if1 .left), sym (c .before .before .before .before .zero-from2 .ensures) ∙ not-false _ (c .before .before .before .if2 .left), c .word-at .ensures)
 
-pub link-at-spec : {M : Type 1} → statement M
-link-at-spec =
+pub flow-at-spec : {M : Type 1} → statement M
+flow-at-spec =
     tie.close
     (tie.spec
     zero-from-requires
