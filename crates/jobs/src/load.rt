@@ -1,4 +1,5 @@
 // The jobs of a table in arrays by number, and its links in a square.
+// Where all records are known to be readable, the else branch of a read is proved never to be taken.
 use crate::Jobs;
 use records::Job;
 use records::JobRead;
