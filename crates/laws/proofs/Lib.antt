@@ -6,3 +6,5 @@ pub mod Members
 pub mod Tests
 pub mod Parts
 pub mod Rows
+pub mod Walking
+pub mod Storing

@@ -3,6 +3,7 @@ pub mod Words
 pub mod Zeros
 pub mod Codec
 pub mod Tables
+pub mod Reading
 pub mod Computes
 pub mod ReaderContracts
 pub mod TakenApart
