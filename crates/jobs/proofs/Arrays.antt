@@ -1,9 +1,9 @@
 -- The arrays of a table's jobs, filled record by record: a job in front is stored at its number, and a link changes nothing.
 -- A loop that fills them in the table's order has them for the reversed table, which has the same jobs where each job number is given once.
-use Prim.Native.Nat.{ℕ, zero, suc, _+_, _<_, _≤_, max}
+use Prim.Native.Nat.{ℕ, _<_, _≤_}
 use native.Mathlib.Omega.{arith}
 use mathlib.Core.Path.{_≡_, refl, sym, ap, _∙_, fun-ext}
-use mathlib.Core.Bool.{Bool, true, false, cond, _&&_, _||_}
+use mathlib.Core.Bool.{Bool, true, false, cond, _||_}
 use mathlib.Core.List.{List, [], _∷_, map, reverse, reverseAux}
 use mathlib.Core.Option.{none}
 use lib.Dec.{eqb, ltb}
@@ -19,8 +19,8 @@ use Rattle.records.specs.declared.Link.{Link}
 use Rattle.records.specs.declared.JobRecord.{JobRecord}
 use Rattle.records.specs.declared.JobRecord.the-variants.{J, L}
 use Rattle.jobs.specs.Judge.{isJob, badNumber, fault3}
-use Rattle.jobs.specs.Jobs.{ofJob, strongest}
-use Rattle.jobs.specs.Arrays.{jobsOf, linksOf}
+use Rattle.jobs.specs.Jobs.{ofJob}
+use Rattle.jobs.specs.Arrays.{jobsOf}
 use Rattle.jobs.specs.declared.Jobs.{Jobs}
 use Rattle.jobs.proofs.Sound.{any-job, fresh}
 

@@ -2,6 +2,8 @@
 pub mod Computes
 pub mod Cases
 pub mod Sound
+pub mod JobsFirst
+pub mod WellFormed
 pub mod Arrays
 pub mod Links
 pub mod Judging

@@ -1,4 +1,5 @@
 // Judging a job table: the lowest of 1 to 5 that holds, and its jobs where none does.
+// 2 is looked for first; in the loops after it the else branch of a read is proved never to be taken.
 use crate::Jobs;
 use crate::Judged;
 use crate::load::is_present;

@@ -1,4 +1,5 @@
 // The jobs of a table in arrays by number, and its links in a square.
+// Where all records are known to be readable, the else branch of a read is proved never to be taken.
 use crate::Jobs;
 use records::Job;
 use records::JobRead;
@@ -11,7 +12,7 @@ ghost use mathlib.Core.List.{List, [], _∷_};
 ghost use mathlib.Core.Option.{none};
 ghost use mathlib.Core.Bool.{false};
 ghost use Prim.Native.Nat.{_+_, _*_, _<_, max};
-ghost use lib.ListN.{length, getD, set, replicate};
+ghost use lib.ListN.{length, getD, set};
 ghost use Rattle.records.specs.declared.JobRecord.{JobRecord};
 ghost use Rattle.records.specs.declared.JobRecord.the-variants.{J, L};
 ghost use Rattle.records.specs.Record.{inJobs};
@@ -21,13 +22,13 @@ ghost use Rattle.jobs.specs.Call.{jobTable, jobsNumber};
 ghost use Rattle.jobs.specs.Arrays.{jobsOf, linksOf};
 
 // What loading the jobs answers: the first record at fault by 3, if there is one, and the jobs of the records before it.
-pub struct Loaded {
-    pub fault: Found,
-    pub jobs: Jobs,
+pub(crate) struct Loaded {
+    pub(crate) fault: Found,
+    pub(crate) jobs: Jobs,
 }
 
 // No jobs.
-pub fn no_jobs() -> Jobs
+pub(crate) fn no_jobs() -> Jobs
     ensures { λ r. ⌜ r ≡ jobsOf [] ⌝ }
 {
     Jobs {
@@ -39,7 +40,7 @@ pub fn no_jobs() -> Jobs
 }
 
 // The mark of a number: there is a job with it.
-pub fn is_present(jobs: Jobs, number: u8) -> bool
+pub(crate) fn is_present(jobs: Jobs, number: u8) -> bool
     ensures { λ b. ⌜ ((table : List JobRecord) → jobs ≡ jobsOf table → b ≡ getD (jobsOf table .present) number false) ⌝ }
 {
     let k = number as usize;
@@ -91,7 +92,7 @@ fn with_record(jobs: Jobs, r: JobRecord) -> Jobs
 }
 
 // The jobs of all records, or the first at fault by 3.
-pub fn load_jobs(s: &[u8], n: usize) -> Loaded
+pub(crate) fn load_jobs(s: &[u8], n: usize) -> Loaded
     requires { ⌜ (length (now s) ≡ 12 * n) × (unreadable (readAll inJobs (now s)) ≡ none) ⌝ }
     ensures { λ r. ⌜ r .fault ≡ asFound (fault3 (jobTable (now (s .entry)))) ⌝ }
     ensures { λ r. ⌜ (fault3 (jobTable (now (s .entry))) ≡ none → r .jobs ≡ jobsOf (jobTable (now (s .entry)))) ⌝ }

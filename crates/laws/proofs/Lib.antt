@@ -4,6 +4,8 @@ pub mod Counting
 pub mod Pasting
 pub mod Adjoining
 pub mod Members
+pub mod Tests
+pub mod Parts
 pub mod Rows
 pub mod Walking
 pub mod Gathering

@@ -2,7 +2,6 @@
 use Prim.Native.Nat.{ℕ, zero, suc, _+_, _-_, max, min}
 use mathlib.Core.Bool.{Bool}
 use mathlib.Core.List.{List, [], _∷_, map}
-use lib.ListN.{getD}
 use lib.Dec.{ltb}
 use Rattle.laws.specs.Lists.{count, any, largest}
 use Rattle.records.specs.declared.JobRecord.{JobRecord}
@@ -50,6 +49,7 @@ pub record Windows : Type 0 where
   pub earliest : List ℕ
   pub latest : List ℕ
 
+-- the windows of a table, from its square of gaps
 unfoldable pub windows : List JobRecord → Square → Windows
 windows table square = record {
   earliest = map (earliestOf table square) (count 0 48);

@@ -1,6 +1,6 @@
 -- A loop that reads the records of a table one after another, for any kind of table: what it reads at place i is the next of the table's records.
 -- The records from place i on are those that are read from there on; where nothing is unreadable, they are the decoded ones, each read.
-use Prim.Native.Nat.{ℕ, zero, suc, _+_, _-_, _*_, _/_, _≤_, _<_}
+use Prim.Native.Nat.{ℕ, zero, suc, _+_, _*_, _/_, _≤_, _<_}
 use native.Mathlib.Nat.{zero-add}
 use native.Mathlib.Omega.{arith}
 use mathlib.Core.Path.{_≡_, refl, sym, ap, _∙_}
@@ -11,7 +11,7 @@ use lib.ListN.{length, drop, length-map}
 use Rattle.laws.specs.Lists.{found}
 use Rattle.laws.proofs.Walking.{Next, next-of, FaultFrom, fault-step, fault-here, fault-end}
 use Rattle.records.specs.Bytes.{recordAt}
-use Rattle.records.specs.Table.{reads, readAll, unreadable, readable, decode, asFound}
+use Rattle.records.specs.Table.{reads, readAll, unreadable, decode, asFound}
 use Rattle.records.specs.declared.table.Found.{Found}
 use Rattle.records.specs.declared.table.Found.the-variants.{At, Nothing}
 use Rattle.records.proofs.Tables.{unreadable-none}

@@ -1,8 +1,8 @@
 -- `jobs::judge::first_bad_value` meets its contract. The loop's invariant: the first record at fault is that from place i on.
 -- Each record that is read is the next of the table's, and none is unreadable. Assumes nothing.
 use Prim.Native.Nat.{_≤_, _-_}
-use mathlib.Core.Path.{refl, _∙_, sym}
 use native.Mathlib.Omega.{arith}
+use mathlib.Core.Path.{refl, _∙_, sym}
 use borrow.Author.Needs.{needs}
 use Rattle.laws.proofs.Walking.{Next, FaultFrom, fault-step}
 use Rattle.jobs.specs.Judge.{badValue, fault4}

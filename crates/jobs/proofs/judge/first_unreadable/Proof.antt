@@ -1,7 +1,6 @@
 -- `jobs::judge::first_unreadable` meets its contract. The loop's invariant: the first record that cannot be read is that from place i on.
 -- Assumes nothing.
 use Prim.Native.Nat.{_≤_, _-_}
-use mathlib.Core.Path.{refl}
 use native.Mathlib.Omega.{arith}
 use borrow.Author.Needs.{needs}
 use Rattle.records.specs.Record.{inJobs}

@@ -1,30 +1,22 @@
 -- `jobs::judge::loose_link` meets its contract: the record's kind picks the case of `looseLink`. Assumes nothing.
 use mathlib.Core.Path.{_∙_, sym, ap}
-use Rattle.jobs.specs.Judge.{looseLink}
 use borrow.Author.Needs.{needs}
+use Rattle.jobs.specs.Judge.{looseLink}
 use Rattle.jobs.proofs.judge.loose_link.Statement.{statement}
 use Rattle.jobs.proofs.judge.loose_link.Tie as tie
-use Rattle.jobs.proofs.judge.loose_link.Reads as reads
-use Rattle.jobs.proofs.judge.loose_link.Lts as lts
-use Rattle.jobs.proofs.judge.loose_ends.Reads as loose-ends-reads
 
--- src/judge.rt:98:28
 enum-told : tie.Need-enum-told
 enum-told c = search needs
 
--- src/judge.rt:99:22
 enum-known-r : tie.Need-enum-known-r
 enum-known-r c = search needs
 
--- src/judge.rt:99:28
 loose-ends-requires : tie.Need-loose-ends-requires
 loose-ends-requires c κs = search needs
 
--- src/judge.rt:94:1
 returns : tie.Need-returns
 returns c = λ table three e. ap (looseLink table) (sym (c .enum-told .given .1))
 
--- src/judge.rt:94:1
 returns-2 : tie.Need-returns-2
 returns-2 c = λ table three e. c .loose-ends .ensures table three e ∙ ap (looseLink table) (sym (c .before .before .r .given .1))
 

@@ -1,8 +1,8 @@
 -- `jobs::load::load_jobs` meets its contract. The loop's invariant: the first record at fault by 3 is that from place i on, and the arrays hold the jobs of the records passed.
 -- Each record that is read is the next of the table's, and none is unreadable. Assumes nothing.
 use Prim.Native.Nat.{_≤_, _-_}
-use mathlib.Core.Path.{_≡_, refl, _∙_, sym, ap}
 use native.Mathlib.Omega.{arith}
+use mathlib.Core.Path.{_≡_, refl, _∙_, sym, ap}
 use borrow.Author.Needs.{needs}
 use Rattle.laws.proofs.Walking.{Next, behind, behind-next, FaultFrom, fault-step}
 use Rattle.jobs.specs.Judge.{badNumber, fault3}

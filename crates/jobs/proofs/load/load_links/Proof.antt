@@ -1,11 +1,11 @@
 -- `jobs::load::load_links` meets its contract. The loop's invariant: the square holds the strongest links of the records passed.
 -- Each record that is read is the next of the table's; a link of a table within the limits names two jobs below 48, and its latency fits. Assumes nothing.
-use Prim.Native.Nat.{ℕ, _≤_, _-_, _/_, _<_}
-use mathlib.Core.Path.{_≡_, refl, _∙_, sym, ap}
+use Prim.Native.Nat.{_≤_, _-_, _/_, _<_}
+use native.Mathlib.Omega.{arith}
+use mathlib.Core.Path.{_≡_, _∙_, sym, ap}
 use mathlib.Core.Logic.{⊎-elim}
 use mathlib.Core.List.{_∷_}
 use lib.ListN.{length}
-use native.Mathlib.Omega.{arith}
 use borrow.Author.Needs.{needs}
 use Rattle.laws.proofs.Walking.{Next, next-member, behind, behind-next}
 use Rattle.records.specs.declared.JobRecord.{JobRecord}
@@ -16,11 +16,6 @@ use Rattle.jobs.proofs.Judging.{Accepted, accepted, whole-records, link
 use Rattle.jobs.proofs.Records.{next-job, always-read, length-table}
 use Rattle.jobs.proofs.load.load_links.Statement.{statement}
 use Rattle.jobs.proofs.load.load_links.Tie as tie
-use Rattle.jobs.proofs.load.load_links.Reads as reads
-use Rattle.jobs.proofs.load.load_links.Lts as lts
-use Rattle.jobs.proofs.load.no_links.Reads as no-links-reads
-use Rattle.jobs.proofs.load.with_link.Reads as with-link-reads
-use Rattle.records.proofs.read.read_job.Reads as read-job-reads
 
 abbrev Inv-loop : tie.InvT-loop
 Inv-loop s n links₀ i₀ links i = (i ≤ n) × (links ≡ linksOf (behind i (jobTable s)))

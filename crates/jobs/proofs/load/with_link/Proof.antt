@@ -1,48 +1,38 @@
 -- `jobs::load::with_link` meets its contract: the test picks the larger of the two. Assumes nothing.
 use Prim.Native.Nat.{_+_, _≤_}
 use native.Mathlib.Nat.{max-eq-left, max-eq-right}
-use mathlib.Core.Path.{_≡_, sym}
 use native.Mathlib.Omega.{arith}
+use mathlib.Core.Path.{sym}
 use lib.ListN.{getD}
 use lib.Seq.{set-getD}
 use borrow.Author.Needs.{needs}
 use Rattle.jobs.proofs.load.with_link.Statement.{statement}
 use Rattle.jobs.proofs.load.with_link.Tie as tie
-use Rattle.jobs.proofs.load.with_link.Reads as reads
-use Rattle.jobs.proofs.load.with_link.Lts as lts
 
--- src/load.rt:128:14
 cast-to : tie.Need-cast-to
 cast-to c = search needs
 
--- src/load.rt:129:20
 add-strength : tie.Need-add-strength
 add-strength c = search needs
 
--- src/load.rt:131:8
 mul-if1 : tie.Need-mul-if1
 mul-if1 c = search needs
 
--- src/load.rt:131:8
 array-read-if1 : tie.Need-array-read-if1
 array-read-if1 c = search needs
 
--- src/load.rt:132:9
 mul-t : tie.Need-mul-t
 mul-t c = search needs
 
--- src/load.rt:132:9
 array-write-t : tie.Need-array-write-t
 array-write-t c = search needs
 
--- src/load.rt:124:1
 returns : tie.Need-returns
 returns c =
     let a = c .before .before .before .args in
     let above : getD (a .row) (a .l .to) 0 ≤ a .l .latency + 1 = omega arith in
     rw (max-eq-left above)
 
--- src/load.rt:124:1
 returns-2 : tie.Need-returns-2
 returns-2 c =
     let a = c .before .before .before .args in
