@@ -9,4 +9,5 @@ pub mod Parts
 pub mod Rows
 pub mod Walking
 pub mod Gathering
+pub mod Sizes
 pub mod Storing

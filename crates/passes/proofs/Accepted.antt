@@ -47,7 +47,7 @@ module _ (bytes : List ℕ) {passes : Passes} {cycle : ℕ} (ok : Accepted bytes
 
   -- a record's flow joins two passes of it
   pub flow-within : (r : PassRecord) → List·Memᴰ r (passTable bytes) → FlowFits passes cycle r
-  flow-within r m = rw (ok .passes, ok .cycle) (record-fits (passTable bytes) (within .sound) (within .ticks) (within .jobs) r m)
+  flow-within r m = rw (ok .passes, ok .cycle) (record-fits (passTable bytes) (within .sound) (within .jobs) (within .ticks) r m)
 
   -- its links are those of each record
   pub all-links : flat (flowLinks (passTable bytes) cycle) (flowsOf (passTable bytes)) ≡ flat (recordLinks passes cycle) (passTable bytes)

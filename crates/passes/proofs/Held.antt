@@ -2,26 +2,18 @@
 use Prim.Native.Nat.{ℕ, _<_}
 use native.Mathlib.Omega.{arith}
 use mathlib.Core.Path.{_≡_, refl, sym, ap, _∙_}
-use mathlib.Core.Bool.{Bool, true, false}
-use mathlib.Core.List.{List, [], _∷_, _++_, map, List·Memᴰ}
+use mathlib.Core.Bool.{false}
+use mathlib.Core.List.{List}
 use lib.ListN.{getD}
-use Rattle.laws.specs.Lists.{count, only, any, keep, flat}
+use Rattle.laws.specs.Lists.{count, only, any}
 use Rattle.laws.proofs.Members.{count-member, flat-same, member-every}
+use Rattle.laws.proofs.Sizes.{map-keep}
 use Rattle.laws.proofs.Rows.{getD-row}
 use Rattle.records.specs.declared.PassRecord.{PassRecord}
 use Rattle.passes.specs.Judge.{isPass}
 use Rattle.passes.specs.Expand.{ofPass, passAt, passesInOrder}
 use Rattle.passes.specs.Arrays.{passesOf, passIn, passesAt, inOrder, Timely, AllTimely}
 use Rattle.passes.proofs.Sound.{Sound, order-limits}
-
--- a function's values at the elements kept are those of each element, where it is kept
-map-keep : {A B : Type 0} (f : A → B) (p : A → Bool) (xs : List A) → map f (keep p xs) ≡ flat (λ x. only (p x) (f x)) xs
-map-keep f p [] = refl
-map-keep f p (x ∷ xs) = step (p x) (map-keep f p xs)
-  where
-    step : (t : Bool) → map f (keep p xs) ≡ flat (λ x. only (p x) (f x)) xs → map f (only t x ++ keep p xs) ≡ only t (f x) ++ flat (λ x. only (p x) (f x)) xs
-    step true e = ap (λ ys. f x ∷ ys) e
-    step false e = e
 
 module _ (table : List PassRecord) where
   module _ (n : ℕ) (h : n < 24) where

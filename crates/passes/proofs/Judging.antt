@@ -17,7 +17,7 @@ use Rattle.records.specs.declared.Pass.{Pass}
 use Rattle.records.specs.declared.Flow.{Flow}
 use Rattle.records.specs.declared.PassRecord.{PassRecord}
 use Rattle.records.specs.declared.PassRecord.the-variants.{P, F}
-use Rattle.records.proofs.Finding.{found-false, refuse-zero}
+use Rattle.records.proofs.Finding.{found-false, refuse-zero, refuse-rest, refuse-first}
 use Rattle.passes.specs.Judge.{isPass, badNumber, looseFlow, fault3, fault4, fault5}
 use Rattle.passes.specs.Expand.{passesInOrder, flowsOf, cycleFrom, cycleOf, jobCount, tooLarge}
 use Rattle.passes.specs.Call.{passTable, passesNumber}
@@ -94,6 +94,30 @@ accepted bytes e =
       jobs = ltb-false 48 (jobCount (cycleOf table) (passesInOrder table)) (both .1);
       flows = ltb-false 64 (length (flowsOf table)) (sizes .1);
     }
+
+-- what comes after 1 to 6 decides where none of them holds
+pub number-later : (bytes : List ℕ) → passesNumber bytes 0 ≡ 0 → (later : ℕ) → passesNumber bytes later ≡ later
+unfolding passesNumber
+number-later bytes e later =
+    refuse-rest 0 (badLength bytes) e
+    (λ after-one. refuse-rest 1 (found (unreadable (readAll inPasses bytes))) after-one
+    (λ after-two. refuse-rest 2 (found (fault3 (passTable bytes))) after-two
+    (λ after-three. refuse-rest 3 (found (fault4 (passTable bytes))) after-three
+    (λ after-four. refuse-rest 4 (found (fault5 (passTable bytes))) after-four
+    (λ after-five. refuse-rest 5 (tooLarge (passTable bytes)) after-five
+    (λ after-six. refl))))))
+
+-- where one of them holds, it does not matter
+pub number-refused : (bytes : List ℕ) (n : ℕ) → passesNumber bytes 0 ≡ suc n → (later : ℕ) → passesNumber bytes later ≡ suc n
+unfolding passesNumber
+number-refused bytes n e later =
+    refuse-first 0 n (badLength bytes) e
+    (λ after-one. refuse-first 1 n (found (unreadable (readAll inPasses bytes))) after-one
+    (λ after-two. refuse-first 2 n (found (fault3 (passTable bytes))) after-two
+    (λ after-three. refuse-first 3 n (found (fault4 (passTable bytes))) after-three
+    (λ after-four. refuse-first 4 n (found (fault5 (passTable bytes))) after-four
+    (λ after-five. refuse-first 5 n (tooLarge (passTable bytes)) after-five
+    (λ after-six. absurd (omega arith)))))))
 
 module _ (table : List PassRecord) {passes : Passes} (held : passes ≡ passesOf table) where
   -- the cycle found of the passes loaded is the table's

@@ -15,4 +15,5 @@ pub mod Arrays
 pub mod Judging
 pub mod Flows
 pub mod Accepted
+pub mod Size
 pub mod Cases

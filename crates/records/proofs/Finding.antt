@@ -39,6 +39,16 @@ pub refuse-zero : (n : ℕ) (t : Bool) {later : ℕ} → refuse (suc n) t later 
 refuse-zero n true e = absurd (omega arith)
 refuse-zero n false e = (refl, e)
 
+-- where a row of refusals comes to 0, another in its last place comes to that one
+pub refuse-rest : (n : ℕ) (t : Bool) {later other w : ℕ} → refuse (suc n) t later ≡ 0 → (later ≡ 0 → other ≡ w) → refuse (suc n) t other ≡ w
+refuse-rest n true e rest = absurd (omega arith)
+refuse-rest n false e rest = rest e
+
+-- where it comes to a number from 1 on, what stands in its last place does not matter
+pub refuse-first : (n m : ℕ) (t : Bool) {later other : ℕ} → refuse (suc n) t later ≡ suc m → (later ≡ suc m → other ≡ suc m) → refuse (suc n) t other ≡ suc m
+refuse-first n m true e rest = e
+refuse-first n m false e rest = rest e
+
 -- a length that 1 does not refuse is that of whole records, 4,096 at most
 pub whole-records : (bytes : List ℕ) → badLength bytes ≡ false → (length bytes ≡ 12 * (length bytes / 12)) × (length bytes ≤ 49152)
 unfolding badLength
