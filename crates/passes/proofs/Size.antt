@@ -46,7 +46,7 @@ module _ (e : Ends) (latency : ℕ) where
   unfolding hits
   matched-source =
       let few = rising-length 1 (e .instances + 1) hits (keep-rising (matches e) (count 1 (e .instances)) (count-rising 1 (e .instances)))
-          (λ i m. let r = count-member 1 (e .instances) i .0 (keep-member (matches e) (count 1 (e .instances)) i .0 m .0) in (r .0, omega arith)) in
+      (λ i m. let r = count-member 1 (e .instances) i .0 (keep-member (matches e) (count 1 (e .instances)) i .0 m .0) in (r .0, omega arith)) in
       omega (arith, length-hits)
 
   -- no more than n, if the target's instances that they are linked with are n at most
@@ -54,7 +54,7 @@ module _ (e : Ends) (latency : ℕ) where
   unfolding hits matches
   matched-target n ps pt inside =
       let few = rising-length 0 n (map start hits) (map-rising start hits (keep-rising (matches e) (count 1 (e .instances)) (count-rising 1 (e .instances))) up)
-          (λ k m. let r = Memᴰ·of-map start hits m in (omega arith, rw (sym (r .2)) (below (r .0) (r .1)))) in
+      (λ k m. let r = Memᴰ·of-map start hits m in (omega arith, rw (sym (r .2)) (below (r .0) (r .1)))) in
       omega (arith, length-hits, length-map hits start)
     where
       -- which period of the target starts with that of an instance
@@ -98,7 +98,7 @@ module _ (table : List PassRecord) (sound : Sound table) (few : jobCount (cycleO
         is,
         instances-share table sound few (f .source) (f .target) (known .0) (known .1) (known .2),
         matched-target e (f .latency) (cycleOf table / passAt table (f .target) .period) (rw ts source) (rw tt′ target)
-        (λ i low high. rw (ts, tt′) (omega (arith, starts-before (cycleOf table) (passAt table (f .source) .period) i source low (omega arith)))),
+            (λ i low high. rw (ts, tt′) (omega (arith, starts-before (cycleOf table) (passAt table (f .source) .period) i source low (omega arith)))),
       )
 
   -- so all of them have at most 24 for each F record

@@ -67,5 +67,5 @@ overwrite-rest out first second m k {now} {part} wrote size long wrote-rest =
     let lent : take k (drop m now) ≡ drop m now = take-all k (drop m now) (omega (arith, length-drop m now)) in
     let none-left : drop k (drop m now) ≡ [] = drop-of-length-le (drop m now) {i = k} (omega (arith, length-drop m now)) in
     let rest : part ≡ second ++ drop (length (first ++ second)) out =
-        wrote-rest ∙ ap (overwrite second) (lent ∙ after) ∙ ap (λ r. second ++ r) (drop-drop (length second) (length first) out ∙ ap (λ n. drop n out) (sym (length-append first second))) in
+    wrote-rest ∙ ap (overwrite second) (lent ∙ after) ∙ ap (λ r. second ++ r) (drop-drop (length second) (length first) out ∙ ap (λ n. drop n out) (sym (length-append first second))) in
     rw (before, none-left, append-nil part, rest) (sym (append-assoc first second (drop (length (first ++ second)) out)))
