@@ -16,4 +16,6 @@ pub mod Judging
 pub mod Flows
 pub mod Accepted
 pub mod Size
+pub mod Exactly
+pub mod Apart
 pub mod Cases
