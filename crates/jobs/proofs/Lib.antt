@@ -2,3 +2,4 @@
 pub mod Computes
 pub mod Cases
 pub mod Sound
+pub mod JobsFirst

@@ -18,7 +18,7 @@ use Rattle.records.specs.declared.JobRecord.{JobRecord}
 use Rattle.records.specs.declared.JobRecord.the-variants.{J, L}
 use Rattle.jobs.specs.Judge.{isJob, badNumber, badValue, looseLink, fault3, fault4, fault5, Sound}
 use Rattle.jobs.specs.Jobs.{numbers, ofJob, cost, release, deadline, strongest}
-use Rattle.jobs.specs.Starts.{Meets, Permitted}
+use Rattle.jobs.specs.Starts.{Meets, Permitted, HasCost}
 
 -- a J record is not an L record
 pub job-not-link : {j : Job} {l : Link} → J j ≡ L l → ⊥
@@ -132,6 +132,16 @@ module _ (table : List JobRecord) (sound : Sound table) where
   -- the deadline of a job number is at most 48000
   pub deadline-limit : (n : ℕ) → List·Memᴰ n (numbers table) → deadline table n ≤ 48000
   deadline-limit n m = let r = number-known table n m in rw (← r .2, job-value (λ j. j .deadline) (r .0) (r .1)) (job-limits (r .0) (r .1) .2)
+
+  -- the table holds a job with a number and a cost exactly when that number has that cost
+  pub cost-by-number : (n c : ℕ) → HasCost table n c ↔ (List·Memᴰ n (numbers table) × (cost table n ≡ c))
+  cost-by-number n c = (there, back)
+    where
+      there : HasCost table n c → List·Memᴰ n (numbers table) × (cost table n ≡ c)
+      there r = let k = job-known (r .0) (r .1) in rw (← r .2, ← r .3) (k .0, k .1)
+
+      back : List·Memᴰ n (numbers table) × (cost table n ≡ c) → HasCost table n c
+      back h = let r = number-known table n (h .0) in (r .0, r .1, r .2, sym (job-value (λ j. j .cost) (r .0) (r .1)) ∙ ap (cost table) (r .2) ∙ h .1)
 
   -- a link joins two different jobs of the table, with a latency within the limit
   pub link-known : (l : Link) → List·Memᴰ (L l) table

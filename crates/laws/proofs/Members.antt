@@ -1,6 +1,7 @@
 -- What being an element of a list says of the words of `specs/`: each law tells from one element what a word says of the whole list, and back.
 -- All of it is by induction on the list, or by cases on a test whose equation is kept.
-use Prim.Native.Nat.{ℕ, zero, suc, _+_, _<_, _≤_}
+use Prim.Native.Nat.{ℕ, zero, suc, _+_, _*_, _<_, _≤_}
+use native.Mathlib.Nat.{mul-suc}
 use native.Mathlib.Omega.{arith}
 use mathlib.Core.Path.{_≡_, refl, sym, ap, _∙_}
 use mathlib.Core.Bool.{Bool, true, false, _||_}
@@ -9,6 +10,7 @@ use mathlib.Core.List.{List, [], _∷_, _++_, map}
 use mathlib.Core.List.{List·Memᴰ, List·Memᴰ·head, List·Memᴰ·tail, List·Memᴰ·not-nil, List·Memᴰ·cases-cons, List·Memᴰ·append-cases, Memᴰ·append-left, Memᴰ·append-right}
 use mathlib.Core.Option.{Option, none, some}
 use lib.Dec.{ltb}
+use lib.ListN.{length, length-append}
 use borrow.Author.Tests.{ltb-true, ltb-false}
 use Rattle.laws.specs.Lists.{count, largest, only, any, keep, Every, firstFault, flat}
 
@@ -118,6 +120,15 @@ module _ {A : Type 0} where
       let others : keep p xs ≡ keep q xs = keep-same p q xs (λ y m. h y (List·Memᴰ·tail m)) in
       rw (first, others)
 
+  -- no more elements are kept than there are
+  pub keep-length : (p : A → Bool) (xs : List A) → length (keep p xs) ≤ length xs
+  keep-length p [] = omega arith
+  keep-length p (x ∷ xs) = step (p x) (keep-length p xs)
+    where
+      step : (t : Bool) → length (keep p xs) ≤ length xs → length (only t x ++ keep p xs) ≤ suc (length xs)
+      step true h = omega arith
+      step false h = omega arith
+
   -- no element is at fault, each judged by those before it
   abbrev pub Faultless : (List A → A → Bool) → List A → List A → Type 0
   Faultless bad before [] = Unit {0}
@@ -156,6 +167,11 @@ module _ {A B : Type 0} where
       back : (z : A) → (z ≡ x) ⊎ List·Memᴰ z xs → List·Memᴰ y (f z) → ((z : A) × List·Memᴰ z xs × List·Memᴰ y (f z) → List·Memᴰ y (flat f xs)) → List·Memᴰ y (f x ++ flat f xs)
       back z (inl e) m below = Memᴰ·append-left (flat f xs) (rw e at m)
       back z (inr n) m below = Memᴰ·append-right (f x) (below (z, n, m))
+
+  -- lists of at most so many elements each, one after another
+  pub flat-length : (f : A → List B) (most : ℕ) (xs : List A) → ((x : A) → length (f x) ≤ most) → length (flat f xs) ≤ most * length xs
+  flat-length f most [] h = omega arith
+  flat-length f most (x ∷ xs) h = omega (arith, length-append (f x) (flat f xs), h x, flat-length f most xs h, mul-suc most (length xs))
 
   -- functions that agree on each element give the same list
   pub map-same : (f g : A → B) (xs : List A) → ((x : A) → List·Memᴰ x xs → f x ≡ g x) → map f xs ≡ map g xs
