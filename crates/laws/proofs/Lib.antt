@@ -4,3 +4,6 @@ pub mod Counting
 pub mod Pasting
 pub mod Members
 pub mod Rows
+pub mod Filling
+pub mod InPlace
+pub mod Scanning

@@ -9,3 +9,5 @@ pub mod WindowsLatest
 pub mod NormalRecords
 pub mod NormalSound
 pub mod NormalPermits
+pub mod Ceiling
+pub mod RoundLoop

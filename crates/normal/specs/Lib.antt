@@ -2,3 +2,4 @@ pub mod Gaps
 pub mod Windows
 pub mod Normal
 pub mod Call
+pub mod Arrays
