@@ -11,3 +11,5 @@ pub mod NormalSound
 pub mod NormalPermits
 pub mod Ceiling
 pub mod RoundLoop
+pub mod NumbersFrom
+pub mod GapsLoop
