@@ -7,8 +7,9 @@ use mathlib.Core.Path.{_≡_, refl, sym, ap, ap₂, _∙_, fun-ext}
 use mathlib.Core.List.{List, [], _∷_, map}
 use lib.ListN.{length, getD, List·getD-map}
 use Rattle.laws.specs.Lists.{count}
+use Rattle.laws.proofs.Lists.{every-getD}
 use Rattle.laws.proofs.Filling.{map-places}
-use Rattle.normal.specs.Gaps.{Square, weight, joined, widened, throughRow, round, rounds}
+use Rattle.normal.specs.Gaps.{Square, cell, weight, joined, widened, throughRow, round, rounds}
 use Rattle.normal.specs.Arrays.{capped, RowWithin, Within}
 use Rattle.normal.proofs.Closure.{joined-zero, joined-sum}
 use Rattle.normal.proofs.Squares.{length-widened, widened-cell}
@@ -46,6 +47,10 @@ module _ (most : ℕ) where
   unfolding capped
   within-stays [] h = refl
   within-stays (row ∷ square) h = ap₂ _∷_ (row-stays row (h .0)) (within-stays square (h .1))
+
+  -- no cell of a square within the ceiling is above it
+  pub within-cell : (square : Square) → Within most square → (i j : ℕ) → cell square i j ≤ most
+  within-cell square h i j = every-getD (λ x. x ≤ most) (getD square i []) 0 (omega arith) (every-getD (RowWithin most) square [] tt h i) j
 
   -- of two numbers the larger one under the ceiling
   larger-cap : (a b : ℕ) → min most (max a b) ≡ max (min most a) (min most b)

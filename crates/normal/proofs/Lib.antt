@@ -13,3 +13,4 @@ pub mod Ceiling
 pub mod RoundLoop
 pub mod NumbersFrom
 pub mod GapsLoop
+pub mod EarliestLoop

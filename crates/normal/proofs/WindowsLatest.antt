@@ -38,7 +38,7 @@ smallest-greatest n bound (x ∷ xs) h each =
     omega (arith, each x (List·Memᴰ·head refl), smallest-greatest n bound xs h (λ y m. each y (List·Memᴰ·tail m)))
 
 -- a time and the gap before it, where there is one
-before-gap : (other time gap : ℕ) → 0 < gap → before other time gap ≡ time - gap
+pub before-gap : (other time gap : ℕ) → 0 < gap → before other time gap ≡ time - gap
 before-gap other time zero h = absurd (omega arith)
 before-gap other time (suc gap) h = refl
 

@@ -1,9 +1,16 @@
--- How the code holds the square of gaps: no cell above a ceiling.
+-- How the code holds the square of gaps: no cell above a ceiling. And what it holds of a table that is not refused.
 use Prim.Native.Nat.{ℕ, _≤_, min}
+use mathlib.Core.Path.{_≡_}
+use mathlib.Core.Bool.{false}
 use mathlib.Core.List.{List, [], map}
 use lib.ListN.{getD}
 use Rattle.laws.specs.Lists.{Every, count}
-use Rattle.normal.specs.Gaps.{Square, weight}
+use Rattle.records.specs.declared.JobRecord.{JobRecord}
+use Rattle.jobs.specs.declared.Jobs.{Jobs}
+use Rattle.jobs.specs.Judge.{Sound}
+use Rattle.jobs.specs.Arrays.{jobsOf}
+use Rattle.normal.specs.Gaps.{Square, weight, gaps, ringIn}
+use Rattle.normal.specs.Windows.{noStarts}
 
 -- the code's ceiling: a gap as long as this misses every deadline
 abbrev pub ceiling : ℕ
@@ -24,3 +31,11 @@ RowWithin most = Every (λ x. x ≤ most)
 -- no cell of the square is
 abbrev pub Within : ℕ → Square → Type 0
 Within most = Every (RowWithin most)
+
+-- jobs and a square that are those of a table which 3 to 8 do not refuse
+pub record Holds (table : List JobRecord) (jobs : Jobs) (square : Square) : Type 0 where
+  pub sound : Sound table
+  pub ringless : ringIn (gaps table) ≡ false
+  pub starts : noStarts table (gaps table) ≡ false
+  pub jobs-held : jobs ≡ jobsOf table
+  pub gaps-held : square ≡ gaps table

@@ -1,6 +1,7 @@
 // The normal form of a job table: gaps, rings, windows, and the records that are written.
 
 pub mod gaps;
+pub mod tighten;
 
 // The windows by job number: each job's earliest and its latest permitted start.
 pub struct Windows {
