@@ -14,3 +14,6 @@ pub mod RoundLoop
 pub mod NumbersFrom
 pub mod GapsLoop
 pub mod EarliestLoop
+pub mod StartsLoop
+pub mod LatestLoop
+pub mod Held

@@ -1,3 +1,8 @@
+-- `normal::tighten::late` meets its contract: the arrays hold the table's cost and deadline. Assumes nothing.
+use Prim.Native.Nat.{_+_}
+use mathlib.Core.Path.{ap₂, _∙_}
+use lib.Dec.{ltb}
+use Rattle.normal.proofs.NumbersFrom.{cost-of, deadline-of}
 use borrow.Author.Needs.{needs}
 use Rattle.normal.proofs.tighten.late.Statement.{statement}
 use Rattle.normal.proofs.tighten.late.Tie as tie
@@ -40,7 +45,10 @@ wide-requires-2 c κs = search needs
 
 -- src/tighten.rt:55:1
 returns : tie.Need-returns
-returns c = ?
+returns c table same =
+    let s = c .before .before .before .before .before in
+    ap₂ ltb (c .wide2 .ensures .0 ∙ deadline-of table same (s .args .j) (s .pre .0))
+    (ap₂ _+_ (c .before .before .before .before .earliest-of .ensures .1 table same) (c .before .before .wide .ensures .0 ∙ cost-of table same (s .args .j) (s .pre .0)))
 
 pub late-spec : {M : Type 1} → statement M
 late-spec =
