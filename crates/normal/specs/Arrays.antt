@@ -39,3 +39,4 @@ pub record Holds (table : List JobRecord) (jobs : Jobs) (square : Square) : Type
   pub starts : noStarts table (gaps table) ≡ false
   pub jobs-held : jobs ≡ jobsOf table
   pub gaps-held : square ≡ gaps table
+  pub within : Within ceiling square
