@@ -16,4 +16,5 @@ pub mod GapsLoop
 pub mod EarliestLoop
 pub mod StartsLoop
 pub mod LatestLoop
+pub mod CeilingTells
 pub mod Held

@@ -24,6 +24,11 @@ any-map p f (x ∷ xs) = ap (λ t. p (f x) || t) (any-map p f xs)
 abbrev pub isLate : List JobRecord → Square → ℕ → Bool
 isLate table square n = ltb (deadline table n) (earliestOf table square n + cost table n)
 
+-- 8 is that some job is late
+pub starts-late : (table : List JobRecord) (square : Square) → noStarts table square ≡ any (isLate table square) (numbers table)
+unfolding noStarts jobsInOrder jobAt
+starts-late table square = any-map (λ (j : Job). ltb (j .deadline) (earliestOf table square (j .number) + j .cost)) (jobAt table) (numbers table)
+
 module _ (jobs : Jobs) (square : Square) where
   -- some job is late exactly when one from j on is
   abbrev pub LateFrom : ℕ → Type 0
@@ -31,8 +36,7 @@ module _ (jobs : Jobs) (square : Square) where
 
   -- at first it is the definition
   pub late-first : LateFrom 0
-  unfolding noStarts jobsInOrder jobAt
-  late-first table same = any-map (λ (j : Job). ltb (j .deadline) (earliestOf table square (j .number) + j .cost)) (jobAt table) (numbers table) ∙ ap (any (isLate table square)) (sym (from-first table))
+  late-first table same = starts-late table square ∙ ap (any (isLate table square)) (sym (from-first table))
 
   module _ (j : ℕ) (below : j < 48) (inv : LateFrom j) where
     -- a job that is late decides
