@@ -1,2 +1,5 @@
 pub mod Cases
 pub mod Unique
+pub mod BadTools
+pub mod Printing
+pub mod Refusals

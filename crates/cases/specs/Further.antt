@@ -1,7 +1,7 @@
 -- Cases K and L of 01, the example's expansion, and the rows that tell misreadings apart which A to L do not, worked by hand from 01.
 use Prim.Native.Nat.{ℕ, _+_, _*_}
 use mathlib.Core.List.{List, [], _∷_, _++_, map}
-use lib.ListN.{replicate, length}
+use lib.ListN.{replicate}
 use Rattle.laws.specs.Lists.{count}
 use Rattle.records.specs.declared.PassRecord.{PassRecord}
 use Rattle.records.specs.declared.JobRecord.{JobRecord}
@@ -24,10 +24,11 @@ two a b = p 0 1 a 0 1 ∷ p 1 1 b 0 1 ∷ []
 abbrev pub fourJobs : List JobRecord → List JobRecord
 fourJobs links = j 0 1 0 100 ∷ j 1 1 0 100 ∷ j 2 1 0 100 ∷ j 3 1 0 100 ∷ links
 
--- two links 0 to 1 of latency 3 and 1, in both orders
+-- two links 0 to 1, of latency 3 and then 1
 abbrev pub strongFirst : List JobRecord
 strongFirst = fourJobs (l 0 1 3 ∷ l 0 1 1 ∷ [])
 
+-- of latency 1 and then 3
 abbrev pub strongLast : List JobRecord
 strongLast = fourJobs (l 0 1 1 ∷ l 0 1 3 ∷ [])
 

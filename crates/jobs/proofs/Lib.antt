@@ -3,3 +3,4 @@ pub mod Computes
 pub mod Cases
 pub mod Sound
 pub mod JobsFirst
+pub mod WellFormed

@@ -10,7 +10,7 @@ use mathlib.Core.List.{List, [], _∷_, List·Memᴰ, List·Memᴰ·head, List·
 use borrow.Author.Tests.{eqb-true, eqb-false, ltb-false, eq-eqb, not-false, ltb-true}
 use lib.Dec.{eqb, ltb}
 use Rattle.laws.specs.Lists.{count, any}
-use Rattle.laws.proofs.Members.{true-not-false, or-false, every-member, member-every, member-any, any-member, keep-member, count-member, Faultless, firstFault-none, faultless-each, Rising, count-rising, keep-rising}
+use Rattle.laws.proofs.Members.{true-not-false, or-false, every-member, member-every, member-any, any-member, keep-member, keep-same, same-test, count-member, Faultless, firstFault-none, faultless-each, Rising, count-rising, keep-rising}
 use Rattle.records.specs.Record.{link}
 use Rattle.records.specs.declared.Job.{Job}
 use Rattle.records.specs.declared.Link.{Link}
@@ -40,6 +40,17 @@ numbers-rising table = keep-rising (λ n. any (isJob n) table) (count 0 48) (cou
 -- each job number is below 48
 pub numbers-below : (table : List JobRecord) (n : ℕ) → List·Memᴰ n (numbers table) → n < 48
 numbers-below table n m = numbers-member table n .0 m .0
+
+-- tables with the same job numbers list the same
+pub numbers-same : (t u : List JobRecord) → ((n : ℕ) → List·Memᴰ n (numbers t) ↔ List·Memᴰ n (numbers u)) → numbers t ≡ numbers u
+unfolding numbers
+numbers-same t u h = keep-same (λ n. any (isJob n) t) (λ n. any (isJob n) u) (count 0 48) (λ n m. same-test _ _ (there n m, back n m))
+  where
+    there : (n : ℕ) → List·Memᴰ n (count 0 48) → any (isJob n) t ≡ true → any (isJob n) u ≡ true
+    there n m e = let b = count-member 0 48 n .0 m in numbers-member u n .0 (h n .0 (numbers-member t n .1 (omega arith, e))) .1
+
+    back : (n : ℕ) → List·Memᴰ n (count 0 48) → any (isJob n) u ≡ true → any (isJob n) t ≡ true
+    back n m e = let b = count-member 0 48 n .0 m in numbers-member t n .0 (h n .1 (numbers-member u n .1 (omega arith, e))) .1
 
 -- a record that is the job with a number is a J record with that number
 pub is-job : (n : ℕ) (r : JobRecord) → isJob n r ≡ true → (j : Job) × (r ≡ J j) × (j .number ≡ n)

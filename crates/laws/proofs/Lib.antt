@@ -3,6 +3,8 @@ pub mod Lists
 pub mod Counting
 pub mod Pasting
 pub mod Members
+pub mod Tests
+pub mod Parts
 pub mod Rows
 pub mod Filling
 pub mod InPlace

@@ -43,7 +43,7 @@ pub or-false : (s t : Bool) → (s || t) ≡ false → (s ≡ false) × (t ≡ f
 or-false true t h = absurd (true-not-false refl h)
 or-false false t h = (refl, h)
 
--- where both tests fail, one or the other fails
+-- where two tests fail, neither passes
 pub false-or : {s t : Bool} → s ≡ false → t ≡ false → (s || t) ≡ false
 false-or {s} {t} p q = rw (p, q)
 
@@ -86,18 +86,10 @@ module _ {A : Type 0} where
   pub any-false : (p : A → Bool) (xs : List A) → any p xs ≡ false → (x : A) → List·Memᴰ x xs → p x ≡ false
   any-false p xs h x m = not-true-false (p x) (λ e. true-not-false (member-any p m e) h)
 
-  -- a test that fails of each element holds of none
-  pub false-any : (p : A → Bool) (xs : List A) → ((x : A) → List·Memᴰ x xs → p x ≡ false) → any p xs ≡ false
-  false-any p xs h = not-true-false (any p xs) (λ e. let r = any-member p xs e in true-not-false (r .2) (h (r .0) (r .1)))
-
   -- the one element where a test holds
   pub only-member : (t : Bool) (x y : A) → List·Memᴰ y (only t x) ↔ ((t ≡ true) × (y ≡ x))
   only-member true x y = (λ m. (refl, elim (List·Memᴰ·cases-cons m) [ inl e ↦ e | inr n ↦ absurd (List·Memᴰ·not-nil n) ]), λ h. List·Memᴰ·head (h .1))
   only-member false x y = (λ m. absurd (List·Memᴰ·not-nil m), λ h. absurd (true-not-false (h .0) refl))
-
-  -- an element of one of two lists that are joined
-  pub append-member : (xs ys : List A) (x : A) → List·Memᴰ x (xs ++ ys) ↔ (List·Memᴰ x xs ⊎ List·Memᴰ x ys)
-  append-member xs ys x = (List·Memᴰ·append-cases xs, elim [ inl m ↦ Memᴰ·append-left ys m | inr m ↦ Memᴰ·append-right xs m ])
 
   -- the elements kept are those of which the test holds
   pub keep-member : (p : A → Bool) (xs : List A) (x : A) → List·Memᴰ x (keep p xs) ↔ (List·Memᴰ x xs × (p x ≡ true))

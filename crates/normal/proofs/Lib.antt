@@ -9,6 +9,8 @@ pub mod WindowsLatest
 pub mod NormalRecords
 pub mod NormalSound
 pub mod NormalPermits
+pub mod Canonical
+pub mod CanonicalBytes
 pub mod Ceiling
 pub mod RoundLoop
 pub mod NumbersFrom

@@ -57,9 +57,9 @@ module _ (table : List JobRecord) (n : ℕ) (known : List·Memᴰ n (numbers tab
   latest-at = getD-row (latest table) 48 n 0 (numbers-below table n known)
 
 -- the normal form is these jobs and then these links
-pub form-records : (table : List JobRecord) → normalForm table ≡ jobsFirst (formJobs table) (formLinks table)
+pub normal-records : (table : List JobRecord) → normalForm table ≡ jobsFirst (formJobs table) (formLinks table)
 unfolding normalForm normalBy normalRecords normalJob normalLinks pairLink jobsInOrder jobAt
-form-records table =
+normal-records table =
     ap₂ jobsFirst
     (map-map (normalJob (windows table (gaps table))) (jobAt table) (numbers table) ∙ map-same _ _ (numbers table) (λ n m. rw (earliest-at table n m, latest-at table n m)))
     (flat-same _ _ (numbers table) (λ i m. flat-same _ _ (numbers table) (λ j n. pair i j m n (gap table i j))))
@@ -108,21 +108,21 @@ module _ (table : List JobRecord) where
   )
 
   -- its J records are those of the job numbers
-  pub form-job : (j : Job) → List·Memᴰ (J j) (normalForm table) ↔ ((n : ℕ) × List·Memᴰ n (numbers table) × (formJob table n ≡ j))
-  form-job j = rw form-records (
+  pub normal-job-member : (j : Job) → List·Memᴰ (J j) (normalForm table) ↔ ((n : ℕ) × List·Memᴰ n (numbers table) × (formJob table n ≡ j))
+  normal-job-member j = rw normal-records (
     λ m. Memᴰ·of-map (formJob table) (numbers table) (job-of (formJobs table) (formLinks table) j .0 m),
     λ h. job-of (formJobs table) (formLinks table) j .1 (Memᴰ·cast (sym (h .2)) (Memᴰ·map (formJob table) (h .1))),
   )
 
   -- its L records are those of the pairs written
-  pub form-link : (l : Link) → List·Memᴰ (L l) (normalForm table) ↔ ((i : ℕ) × (j : ℕ) × Written table i j × (l ≡ link i j (gap table i j - cost table i)))
-  form-link l = rw form-records (Iff·trans (link-of (formJobs table) (formLinks table) l) (links-written l))
+  pub normal-link-member : (l : Link) → List·Memᴰ (L l) (normalForm table) ↔ ((i : ℕ) × (j : ℕ) × Written table i j × (l ≡ link i j (gap table i j - cost table i)))
+  normal-link-member l = rw normal-records (Iff·trans (link-of (formJobs table) (formLinks table) l) (links-written l))
 
   -- it has at most 48 J records and 48 * 48 L records, far fewer than a table may have
-  pub form-length : length (normalForm table) ≤ 48 + 48 * 48
+  pub normal-length : length (normalForm table) ≤ 48 + 48 * 48
   unfolding numbers
-  form-length =
-      rw form-records
+  normal-length =
+      rw normal-records
       (omega (arith, length-append (map J (formJobs table)) (map L (formLinks table)), length-map (formJobs table) J, length-map (formLinks table) L, length-map (numbers table) (formJob table), jobs, links))
     where
       jobs : length (numbers table) ≤ 48

@@ -2,24 +2,23 @@
 -- A gap is at most the time between an earliest start and a deadline, which bounds latencies; a job with a gap to itself would start after itself.
 use Prim.Native.Nat.{ℕ, _+_, _-_, _<_, _≤_}
 use native.Mathlib.Omega.{arith}
-use mathlib.Core.Path.{_≡_, refl, ap, _∙_}
-use mathlib.Core.Bool.{true}
-use mathlib.Core.List.{List, map, map-map, map-id, List·Memᴰ, Memᴰ·of-map}
-use Rattle.laws.specs.Lists.{count, any, Every}
-use Rattle.laws.proofs.Members.{same-test, count-member, keep-same, member-every}
+use mathlib.Core.Path.{_≡_, refl, sym, ap, _∙_}
+use mathlib.Core.List.{List, map, map-map, map-id, List·Memᴰ, Memᴰ·cast, Memᴰ·of-map}
+use Rattle.laws.specs.Lists.{Every}
+use Rattle.laws.proofs.Members.{member-every}
 use Rattle.records.specs.Record.{JobFits}
 use Rattle.records.specs.declared.Job.{Job}
 use Rattle.records.specs.declared.Link.{Link}
 use Rattle.records.specs.declared.JobRecord.{JobRecord}
 use Rattle.records.specs.declared.JobRecord.the-variants.{J, L}
-use Rattle.jobs.specs.Judge.{isJob, Sound}
+use Rattle.jobs.specs.Judge.{Sound}
 use Rattle.jobs.specs.Jobs.{numbers, cost, release, deadline}
-use Rattle.jobs.proofs.Sound.{numbers-member, numbers-rising, numbers-below, any-job, job-any, job-known, link-known, cost-positive, deadline-limit}
+use Rattle.jobs.proofs.Sound.{numbers-rising, numbers-below, numbers-same, number-known, job-known, link-known, cost-positive, deadline-limit}
 use Rattle.jobs.proofs.JobsFirst.{jobs-first-sound}
 use Rattle.normal.specs.Normal.{normalForm}
 use Rattle.normal.proofs.WindowsEarliest.{Normalisable, gapsRight, gap, earliest, latest, earliest-grows}
 use Rattle.normal.proofs.WindowsLatest.{latest-last, last-ends, earliest-latest, no-loop}
-use Rattle.normal.proofs.NormalRecords.{formJob, formJobs, formLinks, form-records, Written, links-written, form-job}
+use Rattle.normal.proofs.NormalRecords.{formJob, formJobs, formLinks, normal-records, Written, links-written, normal-job-member}
 
 -- the normal form's jobs have the table's job numbers
 formJobs-numbers : (table : List JobRecord) → map (λ j. j .number) (formJobs table) ≡ numbers table
@@ -39,9 +38,9 @@ module _ {table : List JobRecord} (normalisable : Normalisable table) where
   distinct i j w e = let loop : 0 < gap table i i = rw e (rw e at (w .chained)) in omega (arith, no-loop normalisable i)
 
   -- the normal form is within the limits
-  pub form-sound : Sound (normalForm table)
-  form-sound =
-      rw form-records
+  pub normal-sound : Sound (normalForm table)
+  normal-sound =
+      rw normal-records
       (jobs-first-sound (formJobs table) (formLinks table) (rw formJobs-numbers (numbers-rising table)) limits latencies ends)
     where
       limits : (j : Job) → List·Memᴰ j (formJobs table) → (j .number < 48) × (0 < j .cost) × (j .deadline ≤ 48000)
@@ -54,33 +53,31 @@ module _ {table : List JobRecord} (normalisable : Normalisable table) where
       ends l m = let r = links-written table l .0 m in rw (formJobs-numbers, r .3) (r .2 .from, r .2 .to)
 
   -- it has the table's job numbers
-  pub form-numbers : numbers (normalForm table) ≡ numbers table
-  unfolding numbers
-  form-numbers = keep-same (λ n. any (isJob n) (normalForm table)) (λ n. any (isJob n) table) (count 0 48) (λ n m. same-test _ _ (there n, back n (count-member 0 48 n .0 m)))
+  pub normal-numbers : numbers (normalForm table) ≡ numbers table
+  normal-numbers = numbers-same (normalForm table) table (λ n. (there n, back n))
     where
-      there : (n : ℕ) → any (isJob n) (normalForm table) ≡ true → any (isJob n) table ≡ true
-      there n e =
-          let r = any-job (normalForm table) n e in
-          let k = form-job table (r .0) .0 (r .1) in
-          let same : k .0 ≡ n = ap (λ j. j .number) (k .2) ∙ r .2 in
-          rw same at (numbers-member table (k .0) .0 (k .1) .1)
+      there : (n : ℕ) → List·Memᴰ n (numbers (normalForm table)) → List·Memᴰ n (numbers table)
+      there n m =
+          let r = number-known (normalForm table) n m in
+          let k = normal-job-member table (r .0) .0 (r .1) in
+          Memᴰ·cast (sym (r .2) ∙ sym (ap (λ j. j .number) (k .2))) (k .1)
 
-      back : (n : ℕ) → (0 ≤ n) × (n < 0 + 48) → any (isJob n) table ≡ true → any (isJob n) (normalForm table) ≡ true
-      back n h e = job-any (form-job table (formJob table n) .1 (n, numbers-member table n .1 (omega arith, e), refl))
+      back : (n : ℕ) → List·Memᴰ n (numbers table) → List·Memᴰ n (numbers (normalForm table))
+      back n m = job-known (normalForm table) normal-sound (formJob table n) (normal-job-member table (formJob table n) .1 (n, m, refl)) .0
 
   -- and by number the table's costs, and the windows in place of releases and deadlines
-  pub form-values : (n : ℕ) → List·Memᴰ n (numbers table)
+  pub normal-values : (n : ℕ) → List·Memᴰ n (numbers table)
       → (cost (normalForm table) n ≡ cost table n) × (release (normalForm table) n ≡ earliest table n) × (deadline (normalForm table) n ≡ latest table n + cost table n)
-  form-values n m = let k = job-known (normalForm table) form-sound (formJob table n) (form-job table (formJob table n) .1 (n, m, refl)) in (k .1, k .2, k .3)
+  normal-values n m = let k = job-known (normalForm table) normal-sound (formJob table n) (normal-job-member table (formJob table n) .1 (n, m, refl)) in (k .1, k .2, k .3)
 
   -- the fields of its records fit their bytes
-  pub form-fits : Every JobFits (normalForm table)
-  form-fits = member-every JobFits (normalForm table) fits
+  pub normal-fits : Every JobFits (normalForm table)
+  normal-fits = member-every JobFits (normalForm table) fits
     where
       fits : (r : JobRecord) → List·Memᴰ r (normalForm table) → JobFits r
       fits (J j) m =
-          let r = form-job table j .0 m in
+          let r = normal-job-member table j .0 m in
           rw (← r .2) (omega (arith, numbers-below table (r .0) (r .1), ends-limit (r .0) (r .1), earliest-latest normalisable (r .0) (r .1)))
       fits (L l) m =
-          let k = link-known (normalForm table) form-sound l m in
+          let k = link-known (normalForm table) normal-sound l m in
           omega (arith, numbers-below (normalForm table) (l .from) (k .0), numbers-below (normalForm table) (l .to) (k .1), k .3)

@@ -1,4 +1,4 @@
--- The earliest permitted start of each job, and 8: `earliestOf` is the earliest permitted start, and 8 is given exactly when nothing is permitted.
+-- The earliest permitted start of each job, and 8: `earliestOf` is the earliest permitted start, and given no ring 8 is given exactly when nothing is permitted.
 -- Along a chain permitted starts grow by its sum, so that each release bounds the starts behind it from below;
 -- the least times that keep those bounds keep the links, as gaps that follow one another join, and are permitted where they keep the deadlines.
 use Prim.Native.Nat.{ℕ, zero, suc, _+_, _-_, _<_, _≤_}
@@ -9,17 +9,17 @@ use mathlib.Core.Logic.{_↔_}
 use mathlib.Core.List.{List, map, List·Memᴰ, Memᴰ·map, Memᴰ·of-map}
 use borrow.Author.Tests.{ltb-true, ltb-false}
 use lib.Dec.{ltb}
-use Rattle.laws.proofs.Members.{not-false-true, any-member, any-false, largest-bounds, largest-least}
+use Rattle.laws.proofs.Members.{not-false-true, not-true-false, any-member, any-false, largest-bounds, largest-least}
 use Rattle.records.specs.Record.{link}
 use Rattle.records.specs.declared.JobRecord.{JobRecord}
 use Rattle.records.specs.declared.JobRecord.the-variants.{L}
 use Rattle.jobs.specs.Judge.{Sound}
 use Rattle.jobs.specs.Jobs.{numbers, cost, release, deadline, jobAt, jobsInOrder}
-use Rattle.jobs.specs.Starts.{Permitted, Chain, one, follow, Earliest}
+use Rattle.jobs.specs.Starts.{Permitted, Chain, one, follow, Ring, Earliest}
 use Rattle.jobs.proofs.Sound.{link-known, PermittedByNumber, permitted-by-number}
 use Rattle.normal.specs.Gaps.{cell, gaps, ringIn}
 use Rattle.normal.specs.Windows.{after, earliestOf, latestOf, noStarts}
-use Rattle.normal.proofs.Chains.{GapsRight, join, chain-from, chain-positive, gaps-right}
+use Rattle.normal.proofs.Chains.{GapsRight, join, chain-from, chain-positive, ring-shown, gaps-right}
 
 -- a table that normalising does not refuse by 3 to 8
 pub record Normalisable (table : List JobRecord) : Type 0 where
@@ -173,9 +173,12 @@ module _ {table : List JobRecord} (normalisable : Normalisable table) where
     bounds = λ other h. earliest-bounds (normalisable .sound) (gapsRight normalisable) other h j m;
   }
 
--- 8 is given exactly when nothing is permitted
-pub no-starts : {table : List JobRecord} → Sound table → ringIn (gaps table) ≡ false → (noStarts table (gaps table) ≡ true) ↔ ((start : ℕ → ℕ) → Permitted table start → ⊥)
-no-starts {table} sound ringless = (
+-- given no ring, 8 is given exactly when nothing is permitted
+pub no-starts : {table : List JobRecord} → Sound table → (Ring table → ⊥) → (noStarts table (gaps table) ≡ true) ↔ ((start : ℕ → ℕ) → Permitted table start → ⊥)
+no-starts {table} sound none = (
   none-permitted sound (gaps-right sound ringless),
   λ h. not-false-true _ (λ e. h (earliest table) (earliest-permitted (record { sound = sound; ringless = ringless; starts = e }))),
 )
+  where
+    ringless : ringIn (gaps table) ≡ false
+    ringless = not-true-false _ (λ e. none (ring-shown sound e))

@@ -1,3 +1,15 @@
 -- What is proved of the search.
 pub mod Computes
 pub mod Cases
+pub mod Meanings
+pub mod Words
+pub mod Rest
+pub mod Opening
+pub mod Schedules
+pub mod Running
+pub mod Existence
+pub mod Feasibility
+pub mod Counts
+pub mod NormalFeasible
+pub mod Given
+pub mod Demands
