@@ -2,6 +2,7 @@
 pub mod Lists
 pub mod Counting
 pub mod Pasting
+pub mod Adjoining
 pub mod Members
 pub mod Tests
 pub mod Parts

@@ -20,3 +20,4 @@ pub mod StartsLoop
 pub mod LatestLoop
 pub mod CeilingTells
 pub mod Held
+pub mod ChosenLaws

@@ -3,10 +3,10 @@
 use Prim.Native.Nat.{ℕ, _+_, _-_, _<_, _≤_}
 use mathlib.Core.Path.{_≡_, refl, sym, ap, _∙_}
 use mathlib.Core.Bool.{Bool, true, false}
-use mathlib.Core.List.{List, [], _∷_, _++_}
+use mathlib.Core.List.{List, [], _∷_}
 use lib.ListN.{getD}
-use Rattle.laws.specs.Lists.{count, any, keep, only}
-use Rattle.laws.proofs.Counting.{count-more, count-end}
+use Rattle.laws.specs.Lists.{count, any, keep}
+use Rattle.laws.proofs.Scanning.{keep-taken, keep-left, keep-none}
 use Rattle.laws.proofs.Rows.{getD-row}
 use Rattle.records.specs.declared.JobRecord.{JobRecord}
 use Rattle.jobs.specs.declared.Jobs.{Jobs}
@@ -26,7 +26,7 @@ from-first table = refl
 -- at the end there are none
 pub from-end : (table : List JobRecord) (k : ℕ) → 48 ≤ k → numbersFrom table k ≡ []
 unfolding numbersFrom
-from-end table k h = ap (keep (λ n. any (isJob n) table)) (count-end k 48 h)
+from-end table k h = keep-none (λ n. any (isJob n) table) k 48 h
 
 module _ {jobs : Jobs} (table : List JobRecord) (same : jobs ≡ jobsOf table) (k : ℕ) (below : k < 48) where
   -- the arrays hold what the table says
@@ -46,14 +46,12 @@ module _ {jobs : Jobs} (table : List JobRecord) (same : jobs ≡ jobsOf table) (
   unfolding jobsOf
   deadline-of = ap (λ j. getD (j .deadline) k 0) same ∙ getD-row (deadline table) 48 k 0 below
 
-  split : numbersFrom table k ≡ only (any (isJob k) table) k ++ numbersFrom table (k + 1)
-  unfolding numbersFrom
-  split = ap (keep (λ n. any (isJob n) table)) (count-more k 48 below)
-
   -- a number that is present is the next of them
   pub from-present : getD (jobs .present) k false ≡ true → numbersFrom table k ≡ k ∷ numbersFrom table (k + 1)
-  from-present e = split ∙ ap (λ t. only t k ++ numbersFrom table (k + 1)) (sym present-of ∙ e)
+  unfolding numbersFrom
+  from-present e = keep-taken (λ n. any (isJob n) table) k 48 below (sym present-of ∙ e)
 
   -- a number that is not is passed over
   pub from-absent : getD (jobs .present) k false ≡ false → numbersFrom table k ≡ numbersFrom table (k + 1)
-  from-absent e = split ∙ ap (λ t. only t k ++ numbersFrom table (k + 1)) (sym present-of ∙ e)
+  unfolding numbersFrom
+  from-absent e = keep-left (λ n. any (isJob n) table) k 48 below (sym present-of ∙ e)

@@ -3,3 +3,4 @@ pub mod Windows
 pub mod Normal
 pub mod Call
 pub mod Arrays
+pub mod Chosen

@@ -3,4 +3,6 @@ pub mod Words
 pub mod Zeros
 pub mod Codec
 pub mod Tables
+pub mod Writing
+pub mod WritingLoop
 pub mod Computes
