@@ -21,3 +21,5 @@ pub mod LatestLoop
 pub mod CeilingTells
 pub mod Held
 pub mod ChosenLaws
+pub mod RecordsFrom
+pub mod WriteLoops

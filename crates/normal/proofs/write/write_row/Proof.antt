@@ -1,3 +1,10 @@
+-- `normal::write::write_row` meets its contract. The loop's invariant: the links to the jobs from j on are left to be written. Assumes nothing.
+use Prim.Native.Nat.{_≤_, _-_}
+use mathlib.Core.Path.{_≡_, ap, _∙_}
+use mathlib.Core.Logic.{⊎-elim}
+use native.Mathlib.Omega.{arith}
+use borrow.Author.Needs.{needs}
+use Rattle.normal.proofs.WriteLoops.{RowLeft, row-left-first, row-left-room, row-left-link, row-left-none, row-left-place, row-left-end}
 use Rattle.normal.proofs.write.write_row.Statement.{statement}
 use Rattle.normal.proofs.write.write_row.Tie as tie
 use Rattle.normal.proofs.write.write_row.Reads as reads
@@ -5,70 +12,78 @@ use Rattle.normal.proofs.write.write_row.Lts as lts
 use Rattle.records.proofs.write.write_link.Reads as write-link-reads
 
 abbrev Inv-loop : tie.InvT-loop
-Inv-loop out₀ first links i place₀ j₀ out place j = ?
+Inv-loop out₀ first links i place₀ j₀ out place j = (j ≤ 48) × RowLeft links out₀ i first j out place
 
 abbrev μ-loop : tie.MeasureT-loop
-μ-loop out₀ first links i place₀ j₀ out place j = ?
+μ-loop out₀ first links i place₀ j₀ out place j = 48 - j
 
 -- src/write.rt:99:5
 loop-holds : tie.Need-loop-holds Inv-loop μ-loop
-loop-holds c = ?
+loop-holds c = (search needs, row-left-first _ _ _ _ (c .before .pre .1))
 
 -- src/write.rt:100:20
 mul-cell : tie.Need-mul-cell Inv-loop μ-loop
-mul-cell c = ?
+mul-cell c = search needs
 
 -- src/write.rt:100:20
 mul-cell-2 : tie.Need-mul-cell-2 Inv-loop μ-loop
-mul-cell-2 c = ?
+mul-cell-2 c = search needs
 
 -- src/write.rt:100:20
 index-1-cell : tie.Need-index-1-cell Inv-loop μ-loop
-index-1-cell c = ?
+index-1-cell c = search needs
 
 -- src/write.rt:100:20
 index-2-cell : tie.Need-index-2-cell Inv-loop μ-loop
-index-2-cell c = ?
+index-2-cell c = search needs
 
 -- src/write.rt:102:27
 sub-latency : tie.Need-sub-latency Inv-loop μ-loop
-sub-latency c = ?
+sub-latency c = search needs
 
 -- src/write.rt:107:27
 cast-t20 : tie.Need-cast-t20 Inv-loop μ-loop
-cast-t20 c = ?
+cast-t20 c = search needs
 
 -- src/write.rt:108:25
 cast-t21 : tie.Need-cast-t21 Inv-loop μ-loop
-cast-t21 c = ?
+cast-t21 c = search needs
 
 -- src/write.rt:103:13
 write-link-requires : tie.Need-write-link-requires Inv-loop μ-loop
-write-link-requires c κs = ?
+write-link-requires c κs = row-left-room _ _ _ _ _ _ _ (c .before .before .before .loop-test .taken) (c .before .before .before .before .loop .inv .1) (c .before .if1 .taken)
 
 -- src/write.rt:112:13
 add-place : tie.Need-add-place Inv-loop μ-loop
-add-place c = ?
+add-place c = search needs
 
 -- src/write.rt:114:9
 add-j : tie.Need-add-j Inv-loop μ-loop
-add-j c = ?
+add-j c = search needs
 
 -- src/write.rt:99:5
 loop-less : tie.Need-loop-less Inv-loop μ-loop
-loop-less c = ?
+loop-less c = search needs
 
 -- src/write.rt:99:5
 loop-again : tie.Need-loop-again Inv-loop μ-loop
-loop-again c = ?
+loop-again c =
+    let a = c .before .before .before .before .before .args in
+    let l = c .before .before .before .loop in
+    ⊎-elim
+    (λ w. (search needs, rw (w .6) (row-left-link (a .links .now) (a .out .now) (a .i) (a .first) (l .j) (l .out) (l .place) (c .before .before .loop-test .taken) (l .inv .1) (c .if1 .out) (w .0 .taken) (w .5 ∙ w .2 .ensures))))
+    (λ w. (search needs, rw (w .1, w .2) (row-left-none (a .links .now) (a .out .now) (a .i) (a .first) (l .j) (l .out) (l .place) (c .before .before .loop-test .taken) (l .inv .1) (w .0 .left))))
+    (c .if1 .came)
 
 -- src/write.rt:92:1
 same-length : tie.Need-same-length Inv-loop μ-loop
-same-length c = ?
+same-length c = search needs
 
 -- src/write.rt:92:1
 returns : tie.Need-returns Inv-loop μ-loop
-returns c = ?
+returns c =
+    let l = c .before .loop in
+    (row-left-place _ _ _ _ (l .j) _ _ (c .loop-test .left) (l .inv .1), row-left-end _ _ _ _ (l .j) _ _ (c .loop-test .left) (l .inv .1))
 
 pub write-row-spec : {M : Type 1} → statement M
 write-row-spec =
