@@ -45,13 +45,12 @@ module _ (jobs : Jobs) (square : Square) (j : ℕ) where
     pub latest-present : (next : ℕ) → getD (jobs .present) k false ≡ true → next ≡ min time (before time (getD (jobs .deadline) k 0 - getD (jobs .cost) k 0) (cell square j k)) → LatestFrom (k + 1) next
     latest-present next e made table same =
         let here : next ≡ min time (before time (lastStart table k) (cell square j k)) = made ∙ ap (λ last. min time (before time last (cell square j k))) (last-of table same k below) in
-        let old = inv table same in
-        (
+        let old = inv table same in (
           omega arith,
           old .1
-          ∙ ap (λ ks. min time (granted table square j ks)) (from-present table same k below e)
-          ∙ earlier-step time (lastStart table j) (lastStart table k) (cell square j k) (granted table square j (numbersFrom table (k + 1))) (old .0)
-          ∙ ap (λ t. min t (granted table square j (numbersFrom table (k + 1)))) (sym here),
+              ∙ ap (λ ks. min time (granted table square j ks)) (from-present table same k below e)
+              ∙ earlier-step time (lastStart table j) (lastStart table k) (cell square j k) (granted table square j (numbersFrom table (k + 1))) (old .0)
+              ∙ ap (λ t. min t (granted table square j (numbersFrom table (k + 1)))) (sym here),
         )
 
     -- a turn at a number of no job

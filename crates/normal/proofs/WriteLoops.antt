@@ -59,6 +59,11 @@ module _ (jobs : Jobs) (w : Windows) (before : List ℕ) where
   pub jobs-left-end : (n : ℕ) (now : List ℕ) (place : ℕ) → 48 ≤ n → JobsLeft n now place → now ≡ overwrite (encode jobBytes (map J (jobsIn jobs w))) before
   jobs-left-end n now place h left = writing-end job-tables left (ap jobRecords (present-end jobs n h)) ∙ written-first job-tables before (map J (jobsIn jobs w))
 
+-- the normal form has a J record for each number
+pub length-jobs-in : (jobs : Jobs) (w : Windows) → length (map J (jobsIn jobs w)) ≡ length (presentIn jobs)
+unfolding jobsIn
+length-jobs-in jobs w = length-jobs jobs w [] (presentIn jobs)
+
 module _ (links : Square) (before : List ℕ) where
   -- a link has a record
   pub length-links : (ls : List Link) → length (map L ls) ≡ length ls

@@ -130,12 +130,7 @@ fn write_links(out: &mut [u8], links: [[u16; 48]; 48])
 }
 
 // The whole normal form: links follow straight after the last job record.
-pub fn write_normal(
-    out: &mut [u8],
-    jobs: Jobs,
-    windows: Windows,
-    links: [[u16; 48]; 48],
-)
+pub fn write_normal(out: &mut [u8], jobs: Jobs, windows: Windows, links: [[u16; 48]; 48])
     requires { ⌜ EndsFit jobs windows × (12 * (length (presentIn jobs) + length (linksIn links)) ≤ length (now out)) ⌝ }
     ensures { λ _. ⌜ now (out .exit) ≡ overwrite (encode jobBytes (map J (jobsIn jobs windows) ++ map L (linksIn links))) (now (out .entry)) ⌝ }
 {

@@ -5,4 +5,5 @@ pub mod Codec
 pub mod Tables
 pub mod Writing
 pub mod WritingLoop
+pub mod Overwriting
 pub mod Computes

@@ -49,13 +49,12 @@ loop-less c = search needs
 loop-again : tie.Need-loop-again Inv-loop μ-loop
 loop-again c =
     let a = c .before .before .before .before .before .before .args in
-    let l = c .before .before .before .loop in
-    (
+    let l = c .before .before .before .loop in (
       search needs,
       ⊎-elim
-      (λ w. rounding-present ceiling (a .t1) (omega arith) (c .before .before .before .before .link-square .result) (l .k) (l .square) (l .inv .1) (c .if1 .square) (c .before .before .loop-test .taken) (w .0 .taken) (w .3 ∙ w .2 .ensures))
-      (λ w. rw (w .1) (rounding-absent ceiling (a .t1) (omega arith) (c .before .before .before .before .link-square .result) (l .k) (l .square) (l .inv .1) (c .before .before .loop-test .taken) (w .0 .left)))
-      (c .if1 .came),
+          (λ w. rounding-present ceiling (a .t1) (omega arith) (c .before .before .before .before .link-square .result) (l .k) (l .square) (l .inv .1) (c .if1 .square) (c .before .before .loop-test .taken) (w .0 .taken) (w .3 ∙ w .2 .ensures))
+          (λ w. rw (w .1) (rounding-absent ceiling (a .t1) (omega arith) (c .before .before .before .before .link-square .result) (l .k) (l .square) (l .inv .1) (c .before .before .loop-test .taken) (w .0 .left)))
+          (c .if1 .came),
     )
 
 -- src/gaps.rt:104:1

@@ -107,7 +107,7 @@ loop-again c =
       search needs,
       rw (w .6) (w .5 .ensures .0),
       latest-present (a .t1) (a .square .now) (a .j) (l .k) (l .latest) (c .before .before .loop-test .taken) (l .inv .2) (c .if1 .latest) (w .0 .taken)
-      (w .6 ∙ w .5 .ensures .1 ∙ ap (λ last. min (l .latest) (before (l .latest) last (cell (a .square .now) (a .j) (l .k)))) (w .3 .ensures .1)),
+          (w .6 ∙ w .5 .ensures .1 ∙ ap (λ last. min (l .latest) (before (l .latest) last (cell (a .square .now) (a .j) (l .k)))) (w .3 .ensures .1)),
     ))
     (λ w. (search needs, rw (w .1) (l .inv .1), rw (w .1) (latest-absent (a .t1) (a .square .now) (a .j) (l .k) (l .latest) (c .before .before .loop-test .taken) (l .inv .2) (w .0 .left))))
     (c .if1 .came)

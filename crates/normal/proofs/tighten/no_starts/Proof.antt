@@ -46,13 +46,12 @@ loop-less c = search needs
 -- src/tighten.rt:69:5
 loop-again : tie.Need-loop-again Inv-loop μ-loop
 loop-again c =
-    let l = c .before .before .before .loop in
-    (
+    let l = c .before .before .before .loop in (
       search needs,
       ⊎-elim
-      (λ w. late-present _ _ (l .j) (c .before .before .loop-test .taken) (l .inv .1) (w .0 .taken) (λ table same. sym (w .2 .ensures table same) ∙ w .3 .left))
-      (λ w. late-absent _ _ (l .j) (c .before .before .loop-test .taken) (l .inv .1) (w .left))
-      (c .if1 .came),
+          (λ w. late-present _ _ (l .j) (c .before .before .loop-test .taken) (l .inv .1) (w .0 .taken) (λ table same. sym (w .2 .ensures table same) ∙ w .3 .left))
+          (λ w. late-absent _ _ (l .j) (c .before .before .loop-test .taken) (l .inv .1) (w .left))
+          (c .if1 .came),
     )
 
 -- src/tighten.rt:64:1

@@ -72,16 +72,14 @@ loop-less c = search needs
 -- src/tighten.rt:127:5
 loop-again : tie.Need-loop-again Inv-loop μ-loop
 loop-again c =
-    let l = c .before .before .before .before .before .loop in
-    (
+    let l = c .before .before .before .before .before .loop in (
       search needs,
       search needs,
       search needs,
-      λ table held.
-          (
-            filled-more 0 _ (l .j) (l .earliest) (l .inv .3 table held .0) (omega arith) (c .before .before .earliest-of .ensures .1 table (held .jobs-held)),
-            filled-more 0 _ (l .j) (l .latest) (l .inv .3 table held .1) (omega arith) (c .latest-of .ensures .1 table held),
-          ),
+      λ table held. (
+        filled-more 0 _ (l .j) (l .earliest) (l .inv .3 table held .0) (omega arith) (c .before .before .earliest-of .ensures .1 table (held .jobs-held)),
+        filled-more 0 _ (l .j) (l .latest) (l .inv .3 table held .1) (omega arith) (c .latest-of .ensures .1 table held),
+      ),
     )
 
 -- src/tighten.rt:120:1

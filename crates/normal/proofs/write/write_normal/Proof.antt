@@ -1,3 +1,17 @@
+-- `normal::write::write_normal` meets its contract: the jobs are the output's first bytes, and the links those of the part that is lent from there on. Assumes nothing.
+use mathlib.Core.Path.{sym, ap, _∙_}
+use native.Mathlib.Omega.{arith}
+use mathlib.Core.List.{map}
+use Rattle.laws.proofs.Adjoining.{flat-append}
+use Rattle.records.specs.Record.{jobBytes}
+use Rattle.records.specs.Table.{encode}
+use Rattle.records.specs.Outcome.{overwrite}
+use Rattle.records.specs.declared.JobRecord.the-variants.{J, L}
+use Rattle.records.proofs.Codec.{jobs as job-tables}
+use Rattle.records.proofs.Tables.{length-encode}
+use Rattle.records.proofs.Overwriting.{overwrite-part}
+use Rattle.normal.specs.Chosen.{jobsIn, linksIn}
+use Rattle.normal.proofs.WriteLoops.{length-jobs-in}
 use borrow.Author.Needs.{needs}
 use Rattle.normal.proofs.write.write_normal.Statement.{statement}
 use Rattle.normal.proofs.write.write_normal.Tie as tie
@@ -41,7 +55,13 @@ same-length c = search needs
 
 -- src/write.rt:133:1
 returns : tie.Need-returns
-returns c = ?
+unfolding encode
+returns c =
+    let a = c .before .before .before .before .before .before .before .before .before .before .args in
+    let jobs = map J (jobsIn (a .jobs) (a .windows)) in
+    let links = map L (linksIn (a .links)) in
+    overwrite-part (a .out .now) (encode jobBytes jobs) (encode jobBytes links) _ (length-encode job-tables jobs ∙ omega (arith, length-jobs-in (a .jobs) (a .windows))) _ _ (c .before .before .before .before .before .before .write-jobs .ensures) (c .before .before .write-links .ensures)
+    ∙ ap (λ bytes. overwrite bytes (a .out .now)) (sym (flat-append jobBytes jobs links))
 
 pub write-normal-spec : {M : Type 1} → statement M
 write-normal-spec =
