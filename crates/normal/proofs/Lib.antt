@@ -23,3 +23,4 @@ pub mod Held
 pub mod ChosenLaws
 pub mod RecordsFrom
 pub mod WriteLoops
+pub mod FormHeld
