@@ -10,3 +10,5 @@ pub mod Rows
 pub mod Filling
 pub mod InPlace
 pub mod Scanning
+pub mod Walking
+pub mod Storing
