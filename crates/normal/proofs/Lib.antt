@@ -24,3 +24,4 @@ pub mod ChosenLaws
 pub mod RecordsFrom
 pub mod WriteLoops
 pub mod FormHeld
+pub mod Answers
