@@ -7,6 +7,9 @@ pub mod Members
 pub mod Tests
 pub mod Parts
 pub mod Rows
+pub mod Filling
+pub mod InPlace
+pub mod Scanning
 pub mod Walking
 pub mod Gathering
 pub mod Sizes

@@ -4,6 +4,8 @@ pub mod Zeros
 pub mod Codec
 pub mod Tables
 pub mod Writing
+pub mod WritingLoop
+pub mod Overwriting
 pub mod Reading
 pub mod Finding
 pub mod Computes
