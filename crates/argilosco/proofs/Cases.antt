@@ -4,6 +4,7 @@ use mathlib.Core.Bool.{true}
 use Rattle.cases.specs.Case.{allPass}
 use Rattle.cases.specs.Starred.{starred}
 use Rattle.cases.specs.Further.{further}
+use Rattle.cases.specs.Edges.{edges}
 use Rattle.cases.proofs.Computes.{computes as cases}
 use Rattle.passes.proofs.Computes.{computes as passes}
 use Rattle.search.proofs.Computes.{computes as search}
@@ -18,3 +19,8 @@ starred-pass = refl
 pub further-pass : allPass comesTo further ≡ true
 unfolding cases passes search comesTo
 further-pass = refl
+
+-- all of the edges pass
+pub edges-pass : allPass comesTo edges ≡ true
+unfolding cases passes search comesTo
+edges-pass = refl

@@ -1,2 +1,4 @@
 pub mod Cases
 pub mod Unique
+pub mod BadTools
+pub mod Printing

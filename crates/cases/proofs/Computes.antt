@@ -3,7 +3,8 @@ use Rattle.records.proofs.Computes.{computes as records}
 use Rattle.cases.specs.Case.{sameBytes, sameOutcome, passesBy, allPass, ofCalls}
 use Rattle.cases.specs.Starred.{starred}
 use Rattle.cases.specs.Further.{further}
+use Rattle.cases.specs.Edges.{edges}
 
 unfoldable pub computes : Unit {0}
-unfolding records sameBytes sameOutcome passesBy allPass ofCalls starred further
+unfolding records sameBytes sameOutcome passesBy allPass ofCalls starred further edges
 computes = tt

@@ -63,6 +63,10 @@ normalises table output = gives normalising (jobs table) 0 (jobs output)
 abbrev pub schedules : List JobRecord → ℕ → ℕ → List Slot → Case
 schedules table budget opened output = gives (scheduling budget) (jobs table) opened (encode slotBytes output)
 
+-- the same case with another room
+abbrev pub inRoom : ℕ → Case → Case
+inRoom room c = record { call = c .call; bytes = c .bytes; room = room; outcome = c .outcome }
+
 -- refused with a number and openings, in so much room
 abbrev pub refusesIn : ℕ → Call → List ℕ → ℕ → ℕ → Case
 refusesIn room call bytes number opened = record { call = call; bytes = bytes; room = room; outcome = refused number opened }

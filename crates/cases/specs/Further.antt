@@ -1,7 +1,7 @@
 -- Cases K and L of 01, the example's expansion, and the rows that tell misreadings apart which A to L do not, worked by hand from 01.
 use Prim.Native.Nat.{ℕ, _+_, _*_}
 use mathlib.Core.List.{List, [], _∷_, _++_, map}
-use lib.ListN.{replicate, length}
+use lib.ListN.{replicate}
 use Rattle.laws.specs.Lists.{count}
 use Rattle.records.specs.declared.PassRecord.{PassRecord}
 use Rattle.records.specs.declared.JobRecord.{JobRecord}

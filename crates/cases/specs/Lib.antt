@@ -1,3 +1,4 @@
 pub mod Case
 pub mod Starred
 pub mod Further
+pub mod Edges

@@ -2,34 +2,37 @@
 use Prim.Native.Nat.{ℕ}
 use mathlib.Core.List.{List, [], _∷_}
 use Rattle.records.specs.declared.JobRecord.{JobRecord}
-use Rattle.cases.specs.Case.{Case, normalising, scheduling, expands, normalises, schedules, refuses, p, f, j, l, s, jobs}
+use Rattle.cases.specs.Case.{Case, normalising, scheduling, expands, normalises, schedules, refuses, j, l, s, jobs}
 
--- B is "the table above", the example of the print program
+-- the tables of the cases, by letter; B is "the table above", the example of the print program
 abbrev pub exampleJobs : List JobRecord
 exampleJobs = j 0 300 0 1000 ∷ j 1 100 0 500 ∷ j 2 100 500 1000 ∷ l 0 1 50 ∷ []
 
-abbrev tableD : List JobRecord
+abbrev pub tableC : ℕ → List JobRecord
+tableC c = j 0 c 0 3 ∷ []
+
+abbrev pub tableD : List JobRecord
 tableD = j 0 10 0 100 ∷ j 1 2 1 3 ∷ []
 
-abbrev tableE : List JobRecord
+abbrev pub tableE : List JobRecord
 tableE = j 0 2 0 3 ∷ j 1 2 0 3 ∷ []
 
-abbrev tableF : List JobRecord
+abbrev pub tableF : List JobRecord
 tableF = j 0 2 0 3 ∷ j 1 2 0 3 ∷ j 2 1 10 20 ∷ []
 
-abbrev tableG : ℕ → List JobRecord
+abbrev pub tableG : ℕ → List JobRecord
 tableG latency = j 0 1 0 10 ∷ j 1 1 0 4 ∷ l 0 1 latency ∷ []
 
-abbrev normalG : List JobRecord
+abbrev pub normalG : List JobRecord
 normalG = j 0 1 0 1 ∷ j 1 1 3 4 ∷ []
 
-abbrev tableI : List JobRecord → List JobRecord
+abbrev pub tableI : List JobRecord → List JobRecord
 tableI added = j 0 1 0 100 ∷ j 1 1 0 100 ∷ j 2 1 0 100 ∷ l 0 1 0 ∷ l 1 2 0 ∷ added
 
-abbrev normalI : List JobRecord
+abbrev pub normalI : List JobRecord
 normalI = j 0 1 0 98 ∷ j 1 1 1 99 ∷ j 2 1 2 100 ∷ l 0 1 0 ∷ l 0 2 1 ∷ l 1 2 0 ∷ []
 
-abbrev tableJ : List JobRecord → List JobRecord
+abbrev pub tableJ : List JobRecord → List JobRecord
 tableJ links = j 0 1 0 100 ∷ j 1 1 0 100 ∷ links
 
 -- the table of cases
@@ -45,10 +48,10 @@ starred =
     ∷ schedules exampleJobs 4 4 (s 0 0 300 ∷ s 1 350 450 ∷ s 2 500 600 ∷ [])
     ∷ refuses (scheduling 3) (jobs exampleJobs) 11 3
     -- C: both sides
-    ∷ normalises (j 0 3 0 3 ∷ []) (j 0 3 0 3 ∷ [])
-    ∷ schedules (j 0 3 0 3 ∷ []) 2 2 (s 0 0 3 ∷ [])
-    ∷ refuses normalising (jobs (j 0 4 0 3 ∷ [])) 8 0
-    ∷ refuses (scheduling 2) (jobs (j 0 4 0 3 ∷ [])) 8 0
+    ∷ normalises (tableC 3) (tableC 3)
+    ∷ schedules (tableC 3) 2 2 (s 0 0 3 ∷ [])
+    ∷ refuses normalising (jobs (tableC 4)) 8 0
+    ∷ refuses (scheduling 2) (jobs (tableC 4)) 8 0
     -- D: "slots 1 at 1 to 3, 0 at 3 to 13; 3 openings. The core must idle at tick 0"
     ∷ schedules tableD 3 3 (s 1 1 3 ∷ s 0 3 13 ∷ [])
     -- E: "10 with 0 openings, also at budget 0"

@@ -2,3 +2,5 @@
 pub mod Computes
 pub mod Cases
 pub mod Sound
+pub mod JobsFirst
+pub mod WellFormed

@@ -10,7 +10,7 @@ use mathlib.Core.List.{List, [], _∷_, List·Memᴰ, List·Memᴰ·head, List·
 use borrow.Author.Tests.{eqb-true, eqb-false, ltb-false, eq-eqb, not-false, ltb-true}
 use lib.Dec.{eqb, ltb}
 use Rattle.laws.specs.Lists.{count, any}
-use Rattle.laws.proofs.Members.{true-not-false, or-false, every-member, member-every, member-any, any-member, keep-member, count-member, Faultless, firstFault-none, faultless-each, Rising, count-rising, keep-rising}
+use Rattle.laws.proofs.Members.{true-not-false, or-false, every-member, member-every, member-any, any-member, keep-member, keep-same, same-test, count-member, Faultless, firstFault-none, faultless-each, Rising, count-rising, keep-rising}
 use Rattle.records.specs.Record.{link}
 use Rattle.records.specs.declared.Job.{Job}
 use Rattle.records.specs.declared.Link.{Link}
@@ -18,7 +18,7 @@ use Rattle.records.specs.declared.JobRecord.{JobRecord}
 use Rattle.records.specs.declared.JobRecord.the-variants.{J, L}
 use Rattle.jobs.specs.Judge.{isJob, badNumber, badValue, looseLink, fault3, fault4, fault5, Sound}
 use Rattle.jobs.specs.Jobs.{numbers, ofJob, cost, release, deadline, strongest}
-use Rattle.jobs.specs.Starts.{Meets, Permitted}
+use Rattle.jobs.specs.Starts.{Meets, Permitted, HasCost}
 
 -- a J record is not an L record
 pub job-not-link : {j : Job} {l : Link} → J j ≡ L l → ⊥
@@ -40,6 +40,17 @@ numbers-rising table = keep-rising (λ n. any (isJob n) table) (count 0 48) (cou
 -- each job number is below 48
 pub numbers-below : (table : List JobRecord) (n : ℕ) → List·Memᴰ n (numbers table) → n < 48
 numbers-below table n m = numbers-member table n .0 m .0
+
+-- tables with the same job numbers list the same
+pub numbers-same : (t u : List JobRecord) → ((n : ℕ) → List·Memᴰ n (numbers t) ↔ List·Memᴰ n (numbers u)) → numbers t ≡ numbers u
+unfolding numbers
+numbers-same t u h = keep-same (λ n. any (isJob n) t) (λ n. any (isJob n) u) (count 0 48) (λ n m. same-test _ _ (there n m, back n m))
+  where
+    there : (n : ℕ) → List·Memᴰ n (count 0 48) → any (isJob n) t ≡ true → any (isJob n) u ≡ true
+    there n m e = let b = count-member 0 48 n .0 m in numbers-member u n .0 (h n .0 (numbers-member t n .1 (omega arith, e))) .1
+
+    back : (n : ℕ) → List·Memᴰ n (count 0 48) → any (isJob n) u ≡ true → any (isJob n) t ≡ true
+    back n m e = let b = count-member 0 48 n .0 m in numbers-member t n .0 (h n .1 (numbers-member u n .1 (omega arith, e))) .1
 
 -- a record that is the job with a number is a J record with that number
 pub is-job : (n : ℕ) (r : JobRecord) → isJob n r ≡ true → (j : Job) × (r ≡ J j) × (j .number ≡ n)
@@ -132,6 +143,16 @@ module _ (table : List JobRecord) (sound : Sound table) where
   -- the deadline of a job number is at most 48000
   pub deadline-limit : (n : ℕ) → List·Memᴰ n (numbers table) → deadline table n ≤ 48000
   deadline-limit n m = let r = number-known table n m in rw (← r .2, job-value (λ j. j .deadline) (r .0) (r .1)) (job-limits (r .0) (r .1) .2)
+
+  -- the table holds a job with a number and a cost exactly when that number has that cost
+  pub cost-by-number : (n c : ℕ) → HasCost table n c ↔ (List·Memᴰ n (numbers table) × (cost table n ≡ c))
+  cost-by-number n c = (there, back)
+    where
+      there : HasCost table n c → List·Memᴰ n (numbers table) × (cost table n ≡ c)
+      there r = let k = job-known (r .0) (r .1) in rw (← r .2, ← r .3) (k .0, k .1)
+
+      back : List·Memᴰ n (numbers table) × (cost table n ≡ c) → HasCost table n c
+      back h = let r = number-known table n (h .0) in (r .0, r .1, r .2, sym (job-value (λ j. j .cost) (r .0) (r .1)) ∙ ap (cost table) (r .2) ∙ h .1)
 
   -- a link joins two different jobs of the table, with a latency within the limit
   pub link-known : (l : Link) → List·Memᴰ (L l) table

@@ -3,4 +3,6 @@ pub mod Lists
 pub mod Counting
 pub mod Pasting
 pub mod Members
+pub mod Tests
+pub mod Parts
 pub mod Rows

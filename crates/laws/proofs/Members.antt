@@ -1,6 +1,7 @@
 -- What being an element of a list says of the words of `specs/`: each law tells from one element what a word says of the whole list, and back.
 -- All of it is by induction on the list, or by cases on a test whose equation is kept.
-use Prim.Native.Nat.{ℕ, zero, suc, _+_, _<_, _≤_}
+use Prim.Native.Nat.{ℕ, zero, suc, _+_, _*_, _<_, _≤_}
+use native.Mathlib.Nat.{mul-suc}
 use native.Mathlib.Omega.{arith}
 use mathlib.Core.Path.{_≡_, refl, sym, ap, _∙_}
 use mathlib.Core.Bool.{Bool, true, false, _||_}
@@ -9,6 +10,7 @@ use mathlib.Core.List.{List, [], _∷_, _++_, map}
 use mathlib.Core.List.{List·Memᴰ, List·Memᴰ·head, List·Memᴰ·tail, List·Memᴰ·not-nil, List·Memᴰ·cases-cons, List·Memᴰ·append-cases, Memᴰ·append-left, Memᴰ·append-right}
 use mathlib.Core.Option.{Option, none, some}
 use lib.Dec.{ltb}
+use lib.ListN.{length, length-append}
 use borrow.Author.Tests.{ltb-true, ltb-false}
 use Rattle.laws.specs.Lists.{count, largest, only, any, keep, Every, firstFault, flat}
 
@@ -41,7 +43,7 @@ pub or-false : (s t : Bool) → (s || t) ≡ false → (s ≡ false) × (t ≡ f
 or-false true t h = absurd (true-not-false refl h)
 or-false false t h = (refl, h)
 
--- where both tests fail, one or the other fails
+-- where two tests fail, neither passes
 pub false-or : {s t : Bool} → s ≡ false → t ≡ false → (s || t) ≡ false
 false-or {s} {t} p q = rw (p, q)
 
@@ -84,18 +86,10 @@ module _ {A : Type 0} where
   pub any-false : (p : A → Bool) (xs : List A) → any p xs ≡ false → (x : A) → List·Memᴰ x xs → p x ≡ false
   any-false p xs h x m = not-true-false (p x) (λ e. true-not-false (member-any p m e) h)
 
-  -- a test that fails of each element holds of none
-  pub false-any : (p : A → Bool) (xs : List A) → ((x : A) → List·Memᴰ x xs → p x ≡ false) → any p xs ≡ false
-  false-any p xs h = not-true-false (any p xs) (λ e. let r = any-member p xs e in true-not-false (r .2) (h (r .0) (r .1)))
-
   -- the one element where a test holds
   pub only-member : (t : Bool) (x y : A) → List·Memᴰ y (only t x) ↔ ((t ≡ true) × (y ≡ x))
   only-member true x y = (λ m. (refl, elim (List·Memᴰ·cases-cons m) [ inl e ↦ e | inr n ↦ absurd (List·Memᴰ·not-nil n) ]), λ h. List·Memᴰ·head (h .1))
   only-member false x y = (λ m. absurd (List·Memᴰ·not-nil m), λ h. absurd (true-not-false (h .0) refl))
-
-  -- an element of one of two lists that are joined
-  pub append-member : (xs ys : List A) (x : A) → List·Memᴰ x (xs ++ ys) ↔ (List·Memᴰ x xs ⊎ List·Memᴰ x ys)
-  append-member xs ys x = (List·Memᴰ·append-cases xs, elim [ inl m ↦ Memᴰ·append-left ys m | inr m ↦ Memᴰ·append-right xs m ])
 
   -- the elements kept are those of which the test holds
   pub keep-member : (p : A → Bool) (xs : List A) (x : A) → List·Memᴰ x (keep p xs) ↔ (List·Memᴰ x xs × (p x ≡ true))
@@ -117,6 +111,15 @@ module _ {A : Type 0} where
       let first : p x ≡ q x = h x (List·Memᴰ·head refl) in
       let others : keep p xs ≡ keep q xs = keep-same p q xs (λ y m. h y (List·Memᴰ·tail m)) in
       rw (first, others)
+
+  -- no more elements are kept than there are
+  pub keep-length : (p : A → Bool) (xs : List A) → length (keep p xs) ≤ length xs
+  keep-length p [] = omega arith
+  keep-length p (x ∷ xs) = step (p x) (keep-length p xs)
+    where
+      step : (t : Bool) → length (keep p xs) ≤ length xs → length (only t x ++ keep p xs) ≤ suc (length xs)
+      step true h = omega arith
+      step false h = omega arith
 
   -- no element is at fault, each judged by those before it
   abbrev pub Faultless : (List A → A → Bool) → List A → List A → Type 0
@@ -156,6 +159,11 @@ module _ {A B : Type 0} where
       back : (z : A) → (z ≡ x) ⊎ List·Memᴰ z xs → List·Memᴰ y (f z) → ((z : A) × List·Memᴰ z xs × List·Memᴰ y (f z) → List·Memᴰ y (flat f xs)) → List·Memᴰ y (f x ++ flat f xs)
       back z (inl e) m below = Memᴰ·append-left (flat f xs) (rw e at m)
       back z (inr n) m below = Memᴰ·append-right (f x) (below (z, n, m))
+
+  -- lists of at most so many elements each, one after another
+  pub flat-length : (f : A → List B) (most : ℕ) (xs : List A) → ((x : A) → length (f x) ≤ most) → length (flat f xs) ≤ most * length xs
+  flat-length f most [] h = omega arith
+  flat-length f most (x ∷ xs) h = omega (arith, length-append (f x) (flat f xs), h x, flat-length f most xs h, mul-suc most (length xs))
 
   -- functions that agree on each element give the same list
   pub map-same : (f g : A → B) (xs : List A) → ((x : A) → List·Memᴰ x xs → f x ≡ g x) → map f xs ≡ map g xs

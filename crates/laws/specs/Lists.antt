@@ -1,6 +1,6 @@
 -- Words on lists and truth values that definitions of more than one crate use.
 use Prim.Native.Nat.{ℕ, zero, suc, _+_, max}
-use mathlib.Core.Bool.{Bool, true, false, cond, _&&_, _||_}
+use mathlib.Core.Bool.{Bool, true, false, _&&_, _||_}
 use mathlib.Core.List.{List, [], _∷_, _++_}
 use mathlib.Core.Option.{Option, none, some}
 

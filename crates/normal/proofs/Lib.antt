@@ -4,3 +4,10 @@ pub mod Cases
 pub mod Closure
 pub mod Squares
 pub mod Chains
+pub mod WindowsEarliest
+pub mod WindowsLatest
+pub mod NormalRecords
+pub mod NormalSound
+pub mod NormalPermits
+pub mod Canonical
+pub mod CanonicalBytes

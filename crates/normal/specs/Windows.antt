@@ -2,7 +2,6 @@
 use Prim.Native.Nat.{ℕ, zero, suc, _+_, _-_, max, min}
 use mathlib.Core.Bool.{Bool}
 use mathlib.Core.List.{List, [], _∷_, map}
-use lib.ListN.{getD}
 use lib.Dec.{ltb}
 use Rattle.laws.specs.Lists.{count, any, largest}
 use Rattle.records.specs.declared.JobRecord.{JobRecord}

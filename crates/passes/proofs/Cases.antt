@@ -5,10 +5,11 @@ use mathlib.Core.List.{_++_}
 use Rattle.cases.specs.Case.{allPass, ofCalls, isExpanding}
 use Rattle.cases.specs.Starred.{starred}
 use Rattle.cases.specs.Further.{further}
+use Rattle.cases.specs.Edges.{edges}
 use Rattle.cases.proofs.Computes.{computes as cases}
 use Rattle.passes.specs.Call.{expand}
 use Rattle.passes.proofs.Computes.{computes}
 
-pub expanding-passes : allPass (λ call. expand) (ofCalls isExpanding (starred ++ further)) ≡ true
+pub expanding-passes : allPass (λ call. expand) (ofCalls isExpanding (starred ++ further ++ edges)) ≡ true
 unfolding computes cases
 expanding-passes = refl

@@ -2,3 +2,11 @@
 pub mod Computes
 pub mod Cases
 pub mod FitLaws
+pub mod Meanings
+pub mod Words
+pub mod Rest
+pub mod Opening
+pub mod Schedules
+pub mod Running
+pub mod Existence
+pub mod Feasibility

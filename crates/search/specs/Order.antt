@@ -65,3 +65,8 @@ pub record Lists (table : List JobRecord) (qs : List (List ℕ)) : Type 0 where
   pub areOpen : Every (Open table) qs
   pub complete : (q : List ℕ) → Open table q → List·Memᴰ q qs
   pub inOrder : InOrder qs
+
+-- "The openings are the number of open sequences up to and including it; when there is none, the number of all open sequences"
+pub data Openings (table : List JobRecord) : ℕ → Type 0 where
+  upTo : {q : List ℕ} (earlier later : List (List ℕ)) → First table q → Lists table (earlier ++ q ∷ later) → Openings table (length earlier + 1)
+  all : {qs : List (List ℕ)} → ((q : List ℕ) → Open table q → Full table q → ⊥) → Lists table qs → Openings table (length qs)
