@@ -6,3 +6,4 @@ pub mod Members
 pub mod Tests
 pub mod Parts
 pub mod Rows
+pub mod Pieces
