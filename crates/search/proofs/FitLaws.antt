@@ -166,3 +166,17 @@ module _ (cost release deadline row : List ℕ) (limit : ℕ) (placed : List Boo
         pub opens-fit : fits ≡ true → Ends (t + c) ≡ opensAt cost release deadline row limit placed ends free k
         unfolding endsAt
         opens-fit e = rw (opens-ends, known, ← costing, ← due, le-leb (t + c) d onTime, ← tested, e)
+
+  -- a job that may come next ends after its cost at the earliest
+  pub opens-cost : (e : ℕ) → opensAt cost release deadline row limit placed ends free k ≡ Ends e → at cost k ≤ e
+  unfolding opensAt endsAt
+  opens-cost e h = step (isPlaced placed k) (startAt row placed ends (max free (at release k)) (linked row limit)) h
+    where
+      ended : (t : ℕ) (b : Bool) → cond b (Ends (t + at cost k)) Not ≡ Ends e → at cost k ≤ e
+      ended t true g = let same : t + at cost k ≡ e = cc in omega arith
+      ended t false g = let z : _≡_ {A = ℕ} 0 1 = cc in absurd (omega arith)
+
+      step : (b : Bool) (s : Start) → cond b Not (endsAt cost release deadline limit placed k s) ≡ Ends e → at cost k ≤ e
+      step true s g = let z : _≡_ {A = ℕ} 0 1 = cc in absurd (omega arith)
+      step false NotYet g = let z : _≡_ {A = ℕ} 0 1 = cc in absurd (omega arith)
+      step false (At t) g = ended t (leb (t + at cost k) (at deadline k) && restFits cost release deadline limit placed k (t + at cost k)) g

@@ -3,6 +3,7 @@ pub mod Computes
 pub mod Cases
 pub mod FitLaws
 pub mod SlotLaws
+pub mod TreeLaws
 pub mod Meanings
 pub mod Words
 pub mod Rest

@@ -5,15 +5,17 @@ use crate::fit;
 use crate::fit::Next;
 use records::Slot;
 ghost use mathlib.Core.Path.{_≡_};
-ghost use Prim.Native.Nat.{_+_, _*_, _<_, _≤_};
+ghost use mathlib.Core.List.{List};
+ghost use Prim.Native.Nat.{ℕ, _+_, _*_, _<_, _≤_};
 ghost use lib.ListN.{length};
 ghost use Rattle.records.specs.Outcome.{overwrite};
-ghost use Rattle.search.specs.State.{placeAt, slotsIn, HaveRun, given, opened, tried, walk, Answers};
+ghost use Rattle.search.specs.State.{at, placeAt, slotsIn, HaveRun, given, opened, tried, walk, Answers};
 
 // The state with job k run next, at the place `depth`, until `end`.
 fn place(s: State, k: usize, end: u16, depth: usize) -> State
     requires { ⌜ (k < 48) × (depth < 48) ⌝ }
     ensures { λ r. ⌜ r ≡ placeAt s k end depth ⌝ }
+    ensures { λ r. ⌜ ((cost : List ℕ) → HaveRun cost (s .order) (s .ends) depth → at cost k ≤ end → HaveRun cost (r .order) (r .ends) (depth + 1)) ⌝ }
 {
     let mut t = s;
     t.placed[k] = true;

@@ -1,5 +1,6 @@
 use mathlib.Core.Path.{refl}
 use Rattle.search.specs.State.{placeAt}
+use Rattle.search.proofs.SlotLaws.{have-run-more}
 use borrow.Author.Needs.{needs}
 use Rattle.search.proofs.tree.place.Statement.{statement}
 use Rattle.search.proofs.tree.place.Tie as tie
@@ -29,7 +30,9 @@ element-write-t-3 c = search needs
 -- src/tree.rt:14:1
 returns : tie.Need-returns
 unfolding placeAt
-returns c = refl
+returns c =
+    let a = c .args in
+    (refl, λ cost h l. have-run-more cost (a .s .order) (a .s .ends) (a .k) (a .end) (a .depth) h (search needs) (search needs) (search needs) l)
 
 pub place-spec : {M : Type 1} → statement M
 place-spec =
