@@ -7,32 +7,13 @@ use mathlib.Core.Bool.{Bool, true, false, cond, not, _&&_, _||_}
 use mathlib.Core.List.{List, [], _∷_, map}
 use lib.Dec.{leb, ltb, eqb}
 use borrow.Author.Tests.{eq-eqb, ne-eqb, le-ltb, lt-ltb, le-leb, lt-leb}
-use Rattle.laws.specs.Lists.{all, keep, count, largest, total}
-use Rattle.laws.proofs.Counting.{count-more, count-end}
+use Rattle.laws.specs.Lists.{all, largest, total}
+use Rattle.laws.proofs.Keeping.{keepFrom, keep-start, keep-end, keep-skip, keep-take}
 use Rattle.search.specs.declared.fit.Start.{Start}
 use Rattle.search.specs.declared.fit.Start.the-variants.{At, NotYet}
 use Rattle.search.specs.declared.fit.Next.{Next}
 use Rattle.search.specs.declared.fit.Next.the-variants.{Ends, Not}
 use Rattle.search.specs.State.{at, isPlaced, linked, startAt, StartBelow, remainsAfter, left, fitsAfter, togetherAfter, restFits, endsAt, opensAt}
-
--- of the numbers from m up to `limit`, those of which a test holds: none, the same as from m + 1 on, or m and those
-module _ (p : ℕ → Bool) (m limit : ℕ) where
-  abbrev pub keepFrom : List ℕ
-  keepFrom = keep p (count m (limit - m))
-
-  pub keep-end : limit ≤ m → keepFrom ≡ []
-  keep-end h = rw (count-end m limit h)
-
-module _ (p : ℕ → Bool) (m limit : ℕ) (below : m < limit) where
-  pub keep-skip : p m ≡ false → keepFrom p m limit ≡ keepFrom p (m + 1) limit
-  keep-skip e = rw (count-more m limit below, e)
-
-  pub keep-take : p m ≡ true → keepFrom p m limit ≡ m ∷ keepFrom p (m + 1) limit
-  keep-take e = rw (count-more m limit below, e)
-
--- from 0 on they are all
-pub keep-start : (p : ℕ → Bool) (limit : ℕ) → keepFrom p 0 limit ≡ keep p (count 0 limit)
-keep-start p limit = let z : limit - 0 ≡ limit = omega arith in rw z
 
 -- `start_after`: with what the links from the jobs below i allow in t, the links from the jobs from i on are still to be seen
 module _ (row : List ℕ) (placed : List Bool) (ends : List ℕ) (limit : ℕ) where

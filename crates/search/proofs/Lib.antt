@@ -4,6 +4,7 @@ pub mod Cases
 pub mod FitLaws
 pub mod SlotLaws
 pub mod TreeLaws
+pub mod MarkLaws
 pub mod Meanings
 pub mod Words
 pub mod Rest

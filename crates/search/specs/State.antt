@@ -11,6 +11,8 @@ use Rattle.records.specs.Record.{slot, slotBytes}
 use Rattle.records.specs.Table.{encode}
 use Rattle.records.specs.Outcome.{Outcome, done, refused, overwrite}
 use Rattle.records.specs.declared.Slot.{Slot}
+use Rattle.records.specs.declared.JobRecord.{JobRecord}
+use Rattle.jobs.specs.Jobs.{strongest}
 use Rattle.search.specs.declared.State.{State}
 use Rattle.search.specs.declared.Found.{Found}
 use Rattle.search.specs.declared.fit.Start.{Start}
@@ -104,6 +106,21 @@ slotsIn cost order ends n = encode slotBytes (map (slotAt cost order ends) (coun
 -- the first n jobs of the order have run, each for its cost
 abbrev pub HaveRun : List ℕ → List ℕ → List ℕ → ℕ → Type 0
 HaveRun cost order ends n = (i : ℕ) → i < n → (at order i < 48) × (at cost (at order i) ≤ at ends (at order i))
+
+-- the job numbers that there are, and one more than the largest of them
+unfoldable pub numbersIn : List Bool → List ℕ
+numbersIn present = keep (λ n. getD present n false) (count 0 48)
+
+unfoldable pub limitOf : List Bool → ℕ
+limitOf present = largest (map (λ n. n + 1) (numbersIn present))
+
+-- the state before any job has run
+unfoldable pub begun : List Bool → State
+begun present = record { placed = map not present; order = replicate 48 0; ends = replicate 48 0; free = 0 }
+
+-- the links into each job, by its number: one more than the latency of the strongest link from each job, 0 where there is none
+unfoldable pub linksInto : List JobRecord → List (List ℕ)
+linksInto table = map (λ k. map (λ i. strongest table i k) (count 0 48)) (count 0 48)
 
 -- a state of the tree, and how many jobs it has run
 pub record Node : Type 0 where
