@@ -13,3 +13,5 @@ pub mod Schedules
 pub mod Running
 pub mod Existence
 pub mod Feasibility
+pub mod ByNumber
+pub mod States
