@@ -15,3 +15,4 @@ pub mod Existence
 pub mod Feasibility
 pub mod ByNumber
 pub mod States
+pub mod Links
