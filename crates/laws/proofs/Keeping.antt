@@ -2,10 +2,10 @@
 -- They rise, and rising numbers are told by which they are.
 use Prim.Native.Nat.{ℕ, _+_, _-_, _≤_, _<_}
 use native.Mathlib.Omega.{arith}
-use mathlib.Core.Path.{_≡_, refl, sym, ap₂}
-use mathlib.Core.Bool.{Bool, true, false}
+use mathlib.Core.Path.{_≡_, refl, sym, ap, ap₂}
+use mathlib.Core.Bool.{Bool, true, false, _&&_}
 use mathlib.Core.Logic.{_↔_, _⊎_, inl, inr}
-use mathlib.Core.List.{List, [], _∷_, List·Memᴰ, List·Memᴰ·head, List·Memᴰ·tail, List·Memᴰ·not-nil, List·Memᴰ·cases-cons}
+use mathlib.Core.List.{List, [], _∷_, map, List·Memᴰ, List·Memᴰ·head, List·Memᴰ·tail, List·Memᴰ·not-nil, List·Memᴰ·cases-cons}
 use Rattle.laws.specs.Lists.{all, keep, count, Every}
 use Rattle.laws.proofs.Counting.{count-more, count-end}
 use Rattle.laws.proofs.Members.{every-member, member-every, Rising}
@@ -60,3 +60,13 @@ pub all-members : {A : Type 0} (p : A → Bool) (xs : List A) → (all p xs ≡ 
 all-members p xs =
     let every = all-means {p = p} {P = λ x. p x ≡ true} (λ x. (λ h. h, λ h. h)) xs in
     (λ h. every-member (λ x. p x ≡ true) (every .0 h), λ h. every .1 (member-every (λ x. p x ≡ true) xs h))
+
+-- tests that agree on each element pass on the whole list together
+pub all-same : {A : Type 0} (p q : A → Bool) (xs : List A) → ((x : A) → List·Memᴰ x xs → p x ≡ q x) → all p xs ≡ all q xs
+all-same p q [] h = refl
+all-same p q (x ∷ xs) h = ap₂ _&&_ (h x (List·Memᴰ·head refl)) (all-same p q xs (λ y m. h y (List·Memᴰ·tail m)))
+
+-- a test passes on a function's values if it passes on each element's value
+pub all-map : {A B : Type 0} (p : B → Bool) (f : A → B) (xs : List A) → all p (map f xs) ≡ all (λ x. p (f x)) xs
+all-map p f [] = refl
+all-map p f (x ∷ xs) = ap (λ t. p (f x) && t) (all-map p f xs)

@@ -16,3 +16,4 @@ pub mod Feasibility
 pub mod ByNumber
 pub mod States
 pub mod Links
+pub mod Candidates
