@@ -17,3 +17,5 @@ pub mod ByNumber
 pub mod States
 pub mod Links
 pub mod Candidates
+pub mod StateSlots
+pub mod Searching

@@ -60,15 +60,15 @@ module _ (g : Given) (budget : ℕ) where
 
   -- a search, a step at a time
   module _ (x : Node) (xs : List Node) (n : ℕ) where
-    walk-spent : n ≡ budget → walk g budget (x ∷ xs) n ≡ refused 11 budget
+    pub walk-spent : n ≡ budget → walk g budget (x ∷ xs) n ≡ refused 11 budget
     unfolding walk
     walk-spent h = rw (walk, eq-eqb n budget h)
 
-    walk-full : (n ≡ budget → ⊥) → x .depth ≡ g .count → walk g budget (x ∷ xs) n ≡ full x n
+    pub walk-full : (n ≡ budget → ⊥) → x .depth ≡ g .count → walk g budget (x ∷ xs) n ≡ full x n
     unfolding walk
     walk-full h f = rw (walk, ne-eqb n budget h, eq-eqb (x .depth) (g .count) f)
 
-    walk-on : (n ≡ budget → ⊥) → (x .depth ≡ g .count → ⊥) → walk g budget (x ∷ xs) n ≡ walk g budget xs (n + 1)
+    pub walk-on : (n ≡ budget → ⊥) → (x .depth ≡ g .count → ⊥) → walk g budget (x ∷ xs) n ≡ walk g budget xs (n + 1)
     unfolding walk
     walk-on h f = rw (walk, ne-eqb n budget h, ne-eqb (x .depth) (g .count) f)
 
