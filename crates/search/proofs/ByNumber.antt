@@ -8,7 +8,7 @@ use mathlib.Core.Logic.{_↔_}
 use mathlib.Core.List.{List, [], _∷_, map, List·Memᴰ, Memᴰ·map, Memᴰ·of-map}
 use lib.ListN.{length, getD}
 use Rattle.laws.specs.Lists.{any, keep, count, largest}
-use Rattle.laws.proofs.Members.{count-member, keep-member, keep-same, keep-rising, count-rising, largest-bounds, largest-least, Rising}
+use Rattle.laws.proofs.Members.{count-member, keep-member, keep-length, keep-same, keep-rising, count-rising, largest-bounds, largest-least, Rising}
 use Rattle.laws.proofs.Rows.{getD-row}
 use Rattle.laws.proofs.Keeping.{rising-same}
 use Rattle.records.specs.declared.JobRecord.{JobRecord}
@@ -49,6 +49,11 @@ module _ (table : List JobRecord) where
   numbers-in =
       keep-same (λ n. getD (jobsOf table .present) n false) (λ n. any (isJob n) table) (count 0 48)
       (λ n m. present-at n (count-member 0 48 n .0 m .1) false)
+
+  -- there are at most 48 of them
+  pub numbers-most : length (numbers table) ≤ 48
+  unfolding numbers
+  numbers-most = omega (arith, keep-length (λ n. any (isJob n) table) (count 0 48))
 
   -- the limit is above each of them, and at most 48
   abbrev pub limit : ℕ
