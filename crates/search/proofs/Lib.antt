@@ -19,3 +19,4 @@ pub mod Links
 pub mod Candidates
 pub mod StateSlots
 pub mod Searching
+pub mod DoorLaws

@@ -1,3 +1,6 @@
+use mathlib.Core.Path.{refl}
+use borrow.Author.Tests.{not-true, not-false}
+use Rattle.search.proofs.DoorLaws.{door-dead, door-live}
 use borrow.Author.Needs.{needs}
 use Rattle.search.proofs.search.Statement.{statement}
 use Rattle.search.proofs.search.Tie as tie
@@ -27,7 +30,7 @@ rest-fits-requires c κs = search needs
 
 -- src/lib.rt:88:9
 returns : tie.Need-returns
-returns c = ?
+returns c table sound is links = door-dead table sound _ _ _ _ _ _ _ _ is (c .before .before .before .before .before .before .absent .ensures) (c .before .before .before .before .before .before .before .before .limit-of .ensures .0) (c .before .rest-fits .ensures) (not-true _ (c .if1 .taken)) refl refl refl
 
 -- src/lib.rt:99:5
 open-requires : tie.Need-open-requires
@@ -39,7 +42,7 @@ same-length c = search needs
 
 -- src/lib.rt:76:1
 returns-2 : tie.Need-returns-2
-returns-2 c = ?
+returns-2 c table sound is links = door-live table sound _ _ _ _ _ _ _ _ is (c .before .before .before .before .before .before .before .before .before .before .before .before .before .absent .ensures) (c .before .before .before .before .before .before .before .before .before .before .before .before .before .before .before .limit-of .ensures .0) (c .before .before .before .before .before .before .before .before .rest-fits .ensures) _ _ _ links (c .before .before .before .before .before .before .before .before .before .before .before .before .before .before .count-of .ensures .0) refl (not-false _ (c .before .before .before .before .before .before .before .if1 .left)) (c .before .before .«open» .ensures .1)
 
 pub search-spec : {M : Type 1} → statement M
 search-spec =
