@@ -17,10 +17,10 @@ module _ {A : Type 0} where
   paste-next before written piece at n e f =
       let end : length written + n ≡ length (written ++ piece) = omega (arith, length-append written piece) in
       let rest : drop (at + n) (written ++ drop (length written) before) ≡ drop (length (written ++ piece)) before =
-          ap (λ k. drop k (written ++ drop (length written) before)) (ap (λ k. k + n) (sym e))
-          ∙ drop-append-add written (drop (length written) before) n
-          ∙ drop-drop n (length written) before
-          ∙ ap (λ k. drop k before) end in
+      ap (λ k. drop k (written ++ drop (length written) before)) (ap (λ k. k + n) (sym e))
+      ∙ drop-append-add written (drop (length written) before) n
+      ∙ drop-drop n (length written) before
+      ∙ ap (λ k. drop k before) end in
       rw (take-at written (drop (length written) before) at e, take-all n piece (omega arith), rest)
 
   -- the lists of some elements and of one more

@@ -61,9 +61,10 @@ module _ (table : List JobRecord) (sound : Sound table) (k : ℕ) (below : k < 4
     -- all of them have run exactly when each of the table's links to the job comes from the sequence
     pub sources-run : all (isPlaced (stateOf table q .placed)) sources ≡ all (linkedFrom q k) table
     sources-run =
-        same-test (all (isPlaced (stateOf table q .placed)) sources) (all (linkedFrom q k) table)
-        (λ h. all-linked table q k .1 (λ l m e. in-sequence l m e (either (has q (l .from))) (all-members (isPlaced (stateOf table q .placed)) sources .0 h)),
-        λ h. all-members (isPlaced (stateOf table q .placed)) sources .1 (λ i m. has-run i m (all-linked table q k .0 h)))
+        same-test (all (isPlaced (stateOf table q .placed)) sources) (all (linkedFrom q k) table) (
+          λ h. all-linked table q k .1 (λ l m e. in-sequence l m e (either (has q (l .from))) (all-members (isPlaced (stateOf table q .placed)) sources .0 h)),
+          λ h. all-members (isPlaced (stateOf table q .placed)) sources .1 (λ i m. has-run i m (all-linked table q k .0 h)),
+        )
       where
         in-sequence : (l : Link) → List·Memᴰ (L l) table → l .to ≡ k → (has q (l .from) ≡ true) ⊎ (has q (l .from) ≡ false)
             → ((i : ℕ) → List·Memᴰ i sources → isPlaced (stateOf table q .placed) i ≡ true) → List·Memᴰ (l .from) q
@@ -98,9 +99,12 @@ module _ (table : List JobRecord) (sound : Sound table) (k : ℕ) (below : k < 4
             linksAllow-least table (run table q) k (largest (map (λ i. at (stateOf table q .ends) i + (at row i - 1)) sources))
             (λ l m e.
             let r = linked-source l m e in
-            omega
-            (arith, r .1, ends (l .from) (source-linked (l .from) (r .0) .0),
-            largest-bounds (map (λ i. at (stateOf table q .ends) i + (at row i - 1)) sources) (at (stateOf table q .ends) (l .from) + (at row (l .from) - 1)) (Memᴰ·map (λ i. at (stateOf table q .ends) i + (at row i - 1)) (r .0))))
+            omega (
+              arith,
+              r .1,
+              ends (l .from) (source-linked (l .from) (r .0) .0),
+              largest-bounds (map (λ i. at (stateOf table q .ends) i + (at row i - 1)) sources) (at (stateOf table q .ends) (l .from) + (at row (l .from) - 1)) (Memᴰ·map (λ i. at (stateOf table q .ends) i + (at row i - 1)) (r .0)),
+            ))
 
     -- so the job may start when it does after the sequence, if it may follow
     pub starts : startAt row (stateOf table q .placed) (stateOf table q .ends) (max (stateOf table q .free) (at (jobsOf table .release) k)) sources

@@ -71,13 +71,7 @@ fn remains(placed: &[bool; 48], k: usize, m: usize) -> bool
 }
 
 // Job m, run by itself, fits after the time t.
-fn fits_alone(
-    cost: &[u16; 48],
-    release: &[u16; 48],
-    deadline: &[u16; 48],
-    t: u32,
-    m: usize,
-) -> bool
+fn fits_alone(cost: &[u16; 48], release: &[u16; 48], deadline: &[u16; 48], t: u32, m: usize) -> bool
     requires { ⌜ (m < 48) × (t < 65536) ⌝ }
     ensures { λ r. ⌜ r ≡ fitsAfter (now (cost .entry)) (now (release .entry)) (now (deadline .entry)) t m ⌝ }
 {

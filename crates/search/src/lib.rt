@@ -96,5 +96,17 @@ pub fn search(jobs: Jobs, into: &[[u16; 48]; 48], budget: u32, out: &mut [u8]) -
         ends: [0; 48],
         free: 0,
     };
-    tree::open(&cost, &release, &deadline, into, limit, count, s, 0, 0, budget, out)
+    tree::open(
+        &cost,
+        &release,
+        &deadline,
+        into,
+        limit,
+        count,
+        s,
+        0,
+        0,
+        budget,
+        out,
+    )
 }

@@ -85,7 +85,20 @@ pub fn open(
             openings: openings + 1,
         };
     }
-    try_next(cost, release, deadline, into, limit, count, s, 0, depth, openings + 1, budget, out)
+    try_next(
+        cost,
+        release,
+        deadline,
+        into,
+        limit,
+        count,
+        s,
+        0,
+        depth,
+        openings + 1,
+        budget,
+        out,
+    )
 }
 
 // Tries the jobs from `from` on as the next one: opens the sequence with the first of them that may come next, and then tries those after it.
@@ -110,14 +123,49 @@ fn try_next(
     let free = s.free;
     let mut k = from;
     while k < limit {
-        if let Next::Ends(end) = fit::opens_at(cost, release, deadline, &into[k], limit, &s.placed, &s.ends, free, k) {
+        if let Next::Ends(end) = fit::opens_at(
+            cost,
+            release,
+            deadline,
+            &into[k],
+            limit,
+            &s.placed,
+            &s.ends,
+            free,
+            k,
+        ) {
             let t = place(s, k, end, depth);
-            let r = open(cost, release, deadline, into, limit, count, t, depth + 1, openings, budget, out);
+            let r = open(
+                cost,
+                release,
+                deadline,
+                into,
+                limit,
+                count,
+                t,
+                depth + 1,
+                openings,
+                budget,
+                out,
+            );
             if r.number != 10 {
                 return r;
             }
             let n = r.openings;
-            return try_next(cost, release, deadline, into, limit, count, s, k + 1, depth, n, budget, out);
+            return try_next(
+                cost,
+                release,
+                deadline,
+                into,
+                limit,
+                count,
+                s,
+                k + 1,
+                depth,
+                n,
+                budget,
+                out,
+            );
         }
         k += 1;
     }

@@ -43,7 +43,7 @@ loop-again c = (
   search needs,
   ⊎-elim (λ w. omega arith) (λ w. omega arith) (c .if1 .came),
   ⊎-elim (λ w. count-on _ _ _ _ (c .before .loop-test .taken) (w .1) (w .0 .taken)) (λ w. count-skip _ _ _ _ (c .before .loop-test .taken) (w .1) (w .0 .left)) (c .if1 .came)
-  ∙ c .before .before .loop .inv .2,
+      ∙ c .before .before .loop .inv .2,
 )
 
 -- src/lib.rt:45:1

@@ -42,7 +42,7 @@ loop-again c = (
   search needs,
   ⊎-elim (λ w. omega arith) (λ w. omega arith) (c .if1 .came),
   ⊎-elim (λ w. limit-on _ _ _ _ (c .before .loop-test .taken) (w .1) (c .before .before .loop .inv .1) (w .0 .taken)) (λ w. limit-skip _ _ _ _ (c .before .loop-test .taken) (w .1) (w .0 .left)) (c .if1 .came)
-  ∙ c .before .before .loop .inv .2,
+      ∙ c .before .before .loop .inv .2,
 )
 
 -- src/lib.rt:60:1

@@ -86,10 +86,10 @@ loop-again c = (
   search needs,
   ⊎-elim (λ w. omega (arith, w .4 .ensures .1, w .8)) (λ w. omega arith) (c .if1 .came),
   ⊎-elim
-  (λ w. rest-on _ _ _ _ _ _ _ _ _ _ (c .before .before .loop-test .taken) _ _ _ _ (w .8) (w .9 ∙ w .7 .ensures) (w .4 .ensures .0) (w .6 .ensures .0) (sym (c .before .remains .ensures) ∙ w .0 .taken) (sym (w .1 .ensures) ∙ not-false _ (w .2 .left)))
-  (λ w. rest-skip _ _ _ _ _ _ _ _ _ _ (c .before .before .loop-test .taken) _ _ (w .1) (w .2) (sym (c .before .remains .ensures) ∙ w .0 .left))
-  (c .if1 .came)
-  ∙ c .before .before .before .loop .inv .4,
+      (λ w. rest-on _ _ _ _ _ _ _ _ _ _ (c .before .before .loop-test .taken) _ _ _ _ (w .8) (w .9 ∙ w .7 .ensures) (w .4 .ensures .0) (w .6 .ensures .0) (sym (c .before .remains .ensures) ∙ w .0 .taken) (sym (w .1 .ensures) ∙ not-false _ (w .2 .left)))
+      (λ w. rest-skip _ _ _ _ _ _ _ _ _ _ (c .before .before .loop-test .taken) _ _ (w .1) (w .2) (sym (c .before .remains .ensures) ∙ w .0 .left))
+      (c .if1 .came)
+      ∙ c .before .before .before .loop .inv .4,
 )
 
 -- src/fit.rt:114:9

@@ -44,7 +44,7 @@ element-copy-out-if2 c = search needs
 returns : tie.Need-returns Inv-loop μ-loop
 returns c = (
   start-not _ _ _ _ _ _ _ (c .before .before .before .before .before .loop-test .taken) (c .before .before .before .wide .ensures .0) (c .before .before .if1 .taken) (not-true _ (c .if2 .taken))
-  ∙ c .before .before .before .before .before .before .loop .inv .3,
+      ∙ c .before .before .before .before .before .before .loop .inv .3,
   tt,
 )
 
@@ -82,17 +82,16 @@ loop-less c = search needs
 
 -- src/fit.rt:49:5
 loop-again : tie.Need-loop-again Inv-loop μ-loop
-loop-again c =
-    (
-      search needs,
-      search needs,
-      ⊎-elim (λ w. omega (arith, w .4 .ensures .1, w .5 .ensures)) (λ w. omega arith) (c .if1 .came),
-      ⊎-elim
+loop-again c = (
+  search needs,
+  search needs,
+  ⊎-elim (λ w. omega (arith, w .4 .ensures .1, w .5 .ensures)) (λ w. omega arith) (c .if1 .came),
+  ⊎-elim
       (λ w. start-on _ _ _ _ _ _ _ (c .before .before .before .loop-test .taken) (c .before .wide .ensures .0) _ _ (w .6 ∙ w .5 .ensures) (w .4 .ensures .0) (w .0 .taken) (not-false _ (w .2 .left)))
       (λ w. start-skip _ _ _ _ _ _ _ (c .before .before .before .loop-test .taken) (c .before .wide .ensures .0) _ (w .1) (w .0 .left))
       (c .if1 .came)
       ∙ c .before .before .before .before .loop .inv .3,
-    )
+)
 
 -- src/fit.rt:36:1
 returns-2 : tie.Need-returns-2 Inv-loop μ-loop
