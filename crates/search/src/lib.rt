@@ -22,6 +22,13 @@ pub struct State {
     pub free: u16,
 }
 
+// What bounds a search: the job numbers are below `limit`, there are `count` jobs, and at most `budget` sequences are opened.
+pub struct Bounds {
+    pub limit: usize,
+    pub count: usize,
+    pub budget: u32,
+}
+
 // What a search answers: 0 with the slots written, 10 or 11, and the openings.
 pub struct Found {
     pub number: u32,
@@ -96,17 +103,10 @@ pub fn search(jobs: Jobs, into: &[[u16; 48]; 48], budget: u32, out: &mut [u8]) -
         ends: [0; 48],
         free: 0,
     };
-    tree::open(
-        &cost,
-        &release,
-        &deadline,
-        into,
+    let b = Bounds {
         limit,
         count,
-        s,
-        0,
-        0,
         budget,
-        out,
-    )
+    };
+    tree::open(&cost, &release, &deadline, into, b, s, 0, 0, out)
 }

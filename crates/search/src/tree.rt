@@ -1,4 +1,5 @@
 // The tree of open sequences, gone through in the order of words.
+use crate::Bounds;
 use crate::Found;
 use crate::State;
 use crate::fit;
@@ -54,25 +55,25 @@ fn write_slots<'a>(
     }
 }
 
-// Opens a sequence: counts it, unless the budget is spent, and writes its slots if it holds all jobs, else goes on with each next job.
+// Opens a sequence, with n opened before it: counts it, unless the budget is spent; writes its slots, if it holds all jobs; else tries its next job.
 pub fn open(
     cost: &[u16; 48],
     release: &[u16; 48],
     deadline: &[u16; 48],
     into: &[[u16; 48]; 48],
-    limit: usize,
-    count: usize,
+    b: Bounds,
     s: State,
     depth: usize,
-    openings: u32,
-    budget: u32,
+    n: u32,
     out: &mut [u8],
 ) -> Found
-    requires { ⌜ (limit ≤ 48) × (count ≤ 48) × (depth ≤ count) × (openings ≤ budget) × (12 * count ≤ length (now out)) × HaveRun (now cost) (s .order) (s .ends) depth ⌝ }
-    ensures { λ r. ⌜ r .openings ≤ budget ⌝ }
-    ensures { λ r. ⌜ Answers (walk (given (now (cost .entry)) (now (release .entry)) (now (deadline .entry)) (now (into .entry)) limit count) budget (opened (given (now (cost .entry)) (now (release .entry)) (now (deadline .entry)) (now (into .entry)) limit count) s depth) openings) r (now (out .entry)) (now (out .exit)) ⌝ }
+    requires { ⌜ (b .limit ≤ 48) × (b .count ≤ 48) × (depth ≤ b .count) × (n ≤ b .budget) × (12 * b .count ≤ length (now out)) × HaveRun (now cost) (s .order) (s .ends) depth ⌝ }
+    ensures { λ r. ⌜ r .openings ≤ b .budget ⌝ }
+    ensures { λ r. ⌜ Answers (walk (given (now (cost .entry)) (now (release .entry)) (now (deadline .entry)) (now (into .entry)) (b .limit) (b .count)) (b .budget) (opened (given (now (cost .entry)) (now (release .entry)) (now (deadline .entry)) (now (into .entry)) (b .limit) (b .count)) s depth) n) r (now (out .entry)) (now (out .exit)) ⌝ }
 {
-    if openings == budget {
+    let budget = b.budget;
+    let count = b.count;
+    if n == budget {
         return Found {
             number: 11,
             openings: budget,
@@ -82,23 +83,10 @@ pub fn open(
         write_slots(out, cost, &s.order, &s.ends, count);
         return Found {
             number: 0,
-            openings: openings + 1,
+            openings: n + 1,
         };
     }
-    try_next(
-        cost,
-        release,
-        deadline,
-        into,
-        limit,
-        count,
-        s,
-        0,
-        depth,
-        openings + 1,
-        budget,
-        out,
-    )
+    try_next(cost, release, deadline, into, b, s, 0, depth, n + 1, out)
 }
 
 // Tries the jobs from `from` on as the next one: opens the sequence with the first of them that may come next, and then tries those after it.
@@ -107,19 +95,18 @@ fn try_next(
     release: &[u16; 48],
     deadline: &[u16; 48],
     into: &[[u16; 48]; 48],
-    limit: usize,
-    count: usize,
+    b: Bounds,
     s: State,
     from: usize,
     depth: usize,
-    openings: u32,
-    budget: u32,
+    n: u32,
     out: &mut [u8],
 ) -> Found
-    requires { ⌜ (limit ≤ 48) × (count ≤ 48) × (depth < count) × (openings ≤ budget) × (12 * count ≤ length (now out)) × HaveRun (now cost) (s .order) (s .ends) depth ⌝ }
-    ensures { λ r. ⌜ r .openings ≤ budget ⌝ }
-    ensures { λ r. ⌜ Answers (walk (given (now (cost .entry)) (now (release .entry)) (now (deadline .entry)) (now (into .entry)) limit count) budget (tried (given (now (cost .entry)) (now (release .entry)) (now (deadline .entry)) (now (into .entry)) limit count) s depth from) openings) r (now (out .entry)) (now (out .exit)) ⌝ }
+    requires { ⌜ (b .limit ≤ 48) × (b .count ≤ 48) × (depth < b .count) × (n ≤ b .budget) × (12 * b .count ≤ length (now out)) × HaveRun (now cost) (s .order) (s .ends) depth ⌝ }
+    ensures { λ r. ⌜ r .openings ≤ b .budget ⌝ }
+    ensures { λ r. ⌜ Answers (walk (given (now (cost .entry)) (now (release .entry)) (now (deadline .entry)) (now (into .entry)) (b .limit) (b .count)) (b .budget) (tried (given (now (cost .entry)) (now (release .entry)) (now (deadline .entry)) (now (into .entry)) (b .limit) (b .count)) s depth from) n) r (now (out .entry)) (now (out .exit)) ⌝ }
 {
+    let limit = b.limit;
     let free = s.free;
     let mut k = from;
     while k < limit {
@@ -135,42 +122,17 @@ fn try_next(
             k,
         ) {
             let t = place(s, k, end, depth);
-            let r = open(
-                cost,
-                release,
-                deadline,
-                into,
-                limit,
-                count,
-                t,
-                depth + 1,
-                openings,
-                budget,
-                out,
-            );
+            let r = open(cost, release, deadline, into, b, t, depth + 1, n, out);
             if r.number != 10 {
                 return r;
             }
-            let n = r.openings;
-            return try_next(
-                cost,
-                release,
-                deadline,
-                into,
-                limit,
-                count,
-                s,
-                k + 1,
-                depth,
-                n,
-                budget,
-                out,
-            );
+            let m = r.openings;
+            return try_next(cost, release, deadline, into, b, s, k + 1, depth, m, out);
         }
         k += 1;
     }
     Found {
         number: 10,
-        openings,
+        openings: n,
     }
 }

@@ -1,3 +1,5 @@
+-- `search::fit::rest_fits` meets its contract: with the costs and the largest deadline of the jobs below m that remain, what those from m on make of them stays the same.
+-- Assumes nothing.
 use Prim.Native.Nat.{_≤_, _<_, _-_, _*_}
 use mathlib.Core.Path.{_≡_, _∙_, sym}
 use mathlib.Core.Logic.{⊎-elim}
@@ -8,12 +10,6 @@ use Rattle.search.specs.State.{restFits}
 use Rattle.search.proofs.FitLaws.{restFrom, rest-start, rest-end, rest-skip, rest-not, rest-on, together-none, together-some}
 use Rattle.search.proofs.fit.rest_fits.Statement.{statement}
 use Rattle.search.proofs.fit.rest_fits.Tie as tie
-use Rattle.search.proofs.fit.rest_fits.Reads as reads
-use Rattle.search.proofs.fit.rest_fits.Lts as lts
-use Rattle.search.proofs.fit.fits_alone.Reads as fits-alone-reads
-use Rattle.search.proofs.fit.larger.Reads as larger-reads
-use Rattle.search.proofs.fit.remains.Reads as remains-reads
-use Rattle.search.proofs.fit.wide.Reads as wide-reads
 
 abbrev Inv-loop : tie.InvT-loop
 Inv-loop cost release deadline limit placed k t costs₀ last₀ m₀ costs last m =
@@ -22,63 +18,48 @@ Inv-loop cost release deadline limit placed k t costs₀ last₀ m₀ costs last
 abbrev μ-loop : tie.MeasureT-loop
 μ-loop cost release deadline limit placed k t costs₀ last₀ m₀ costs last m = limit - m
 
--- src/fit.rt:103:5
 loop-holds : tie.Need-loop-holds Inv-loop μ-loop
 loop-holds c = (search needs, search needs, search needs, search needs, rest-start _ _ _ _ _ _ _)
 
--- src/fit.rt:104:12
 remains-requires : tie.Need-remains-requires Inv-loop μ-loop
 remains-requires c κs = search needs
 
--- src/fit.rt:105:17
 fits-alone-requires : tie.Need-fits-alone-requires Inv-loop μ-loop
 fits-alone-requires c κs = search needs
 
--- src/fit.rt:106:17
 returns : tie.Need-returns Inv-loop μ-loop
 returns c = rest-not _ _ _ _ _ _ _ _ _ _ (c .before .before .before .before .loop-test .taken) (sym (c .before .before .before .remains .ensures) ∙ c .before .before .if1 .taken) (sym (c .before .fits-alone .ensures) ∙ not-true _ (c .if2 .taken)) ∙ c .before .before .before .before .before .loop .inv .4
 
--- src/fit.rt:108:27
 mul-wide : tie.Need-mul-wide Inv-loop μ-loop
 mul-wide c = search needs
 
--- src/fit.rt:108:27
 element-copy-out-wide : tie.Need-element-copy-out-wide Inv-loop μ-loop
 element-copy-out-wide c = search needs
 
--- src/fit.rt:108:22
 wide-requires : tie.Need-wide-requires Inv-loop μ-loop
 wide-requires c κs = search needs
 
--- src/fit.rt:108:13
 add-costs : tie.Need-add-costs Inv-loop μ-loop
 add-costs c = search needs
 
--- src/fit.rt:109:38
 mul-wide-2 : tie.Need-mul-wide-2 Inv-loop μ-loop
 mul-wide-2 c = search needs
 
--- src/fit.rt:109:38
 element-copy-out-wide-2 : tie.Need-element-copy-out-wide-2 Inv-loop μ-loop
 element-copy-out-wide-2 c = search needs
 
--- src/fit.rt:109:33
 wide-requires-2 : tie.Need-wide-requires-2 Inv-loop μ-loop
 wide-requires-2 c κs = search needs
 
--- src/fit.rt:109:13
 larger-requires : tie.Need-larger-requires Inv-loop μ-loop
 larger-requires c κs = search needs
 
--- src/fit.rt:111:9
 add-m : tie.Need-add-m Inv-loop μ-loop
 add-m c = search needs
 
--- src/fit.rt:103:5
 loop-less : tie.Need-loop-less Inv-loop μ-loop
 loop-less c = search needs
 
--- src/fit.rt:103:5
 loop-again : tie.Need-loop-again Inv-loop μ-loop
 loop-again c = (
   search needs,
@@ -92,15 +73,12 @@ loop-again c = (
       ∙ c .before .before .before .loop .inv .4,
 )
 
--- src/fit.rt:114:9
 returns-2 : tie.Need-returns-2 Inv-loop μ-loop
 returns-2 c = together-none _ _ _ (c .if3 .taken) ∙ rest-end _ _ _ _ _ _ _ _ _ _ (c .before .loop-test .left) ∙ c .before .before .loop .inv .4
 
--- src/fit.rt:116:5
 add-result : tie.Need-add-result Inv-loop μ-loop
 add-result c = search needs
 
--- src/fit.rt:88:1
 returns-3 : tie.Need-returns-3 Inv-loop μ-loop
 returns-3 c = together-some _ _ _ (c .if3 .left) ∙ rest-end _ _ _ _ _ _ _ _ _ _ (c .before .loop-test .left) ∙ c .before .before .loop .inv .4
 
