@@ -14,3 +14,5 @@ pub mod Walking
 pub mod Gathering
 pub mod Sizes
 pub mod Storing
+pub mod Keeping
+pub mod Pieces
