@@ -12,3 +12,5 @@ pub mod InPlace
 pub mod Scanning
 pub mod Walking
 pub mod Storing
+pub mod Keeping
+pub mod Pieces
