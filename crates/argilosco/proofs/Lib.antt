@@ -3,3 +3,4 @@ pub mod Unique
 pub mod BadTools
 pub mod Printing
 pub mod Refusals
+pub mod Normalising

@@ -1,4 +1,6 @@
-// The public calls, exported for C and Rust. So far: what they answer, and what they promise.
+// The public calls, exported for C and Rust. So far: what they answer, what they promise, and normalising.
+
+pub mod normalise;
 
 // What expanding and normalising answer: 01's number, and how many bytes of the output were written.
 #[repr(C)]

@@ -48,6 +48,11 @@ jobs-refused bytes given later some =
     (refuse-stays 4 (found (fault4 (jobTable bytes)))
     (refuse-stays 5 (found (fault5 (jobTable bytes))) (λ e. absurd (some (sym e)))))))
 
+-- so normalising gives it
+pub jobs-normalised : (bytes : List ℕ) (room given : ℕ) → (given ≡ 0 → ⊥) → jobsNumber bytes 0 ≡ given → normaliseNumber bytes room ≡ given
+unfolding normaliseNumber
+jobs-normalised bytes room given some e = jobs-refused bytes given _ some e
+
 module _ {bytes : List ℕ} (formed : WellFormed bytes) {square : Square} (made : square ≡ capped ceiling (gaps (jobTable bytes))) where
   -- what the square under the ceiling tells
   ring-told : {t : Bool} → t ≡ ringIn square → ringIn (gaps (jobTable bytes)) ≡ t
@@ -61,11 +66,19 @@ module _ {bytes : List ℕ} (formed : WellFormed bytes) {square : Square} (made 
   unfolding startsNumber
   ring-number later e = well-formed-number formed _ ∙ rw (ring-told e)
 
+  pub ring-normalised : (room : ℕ) → true ≡ ringIn square → normaliseNumber bytes room ≡ 7
+  unfolding normaliseNumber
+  ring-normalised room e = ring-number _ e
+
   module _ (no-ring : false ≡ ringIn square) where
     -- 8
     pub starts-number : (later : ℕ) → true ≡ noStarts (jobTable bytes) square → jobsNumber bytes (startsNumber (jobTable bytes) later) ≡ 8
     unfolding startsNumber
     starts-number later e = well-formed-number formed _ ∙ rw (ring-told no-ring, starts-told e)
+
+    pub starts-normalised : (room : ℕ) → true ≡ noStarts (jobTable bytes) square → normaliseNumber bytes room ≡ 8
+    unfolding normaliseNumber
+    starts-normalised room e = starts-number _ e
 
     -- neither, and the code holds the table's jobs and its square of gaps
     pub table-held : (jobs : Jobs) → jobs ≡ jobsOf (jobTable bytes) → false ≡ noStarts (jobTable bytes) square → Holds (jobTable bytes) jobs square
@@ -88,16 +101,16 @@ module _ {bytes : List ℕ} (formed : WellFormed bytes) {jobs : Jobs} {square : 
 
   module _ (w : Windows) (same : w ≡ windows (jobTable bytes) square) where
     -- the bytes of the normal form
-    pub held-bytes : encode jobBytes (map J (jobsIn jobs w) ++ map L (linksIn (chosen jobs w square))) ≡ normalBytes bytes
+    pub held-bytes : {links : Square} → links ≡ chosen jobs w square → encode jobBytes (map J (jobsIn jobs w) ++ map L (linksIn links)) ≡ normalBytes bytes
     unfolding normalBytes
-    held-bytes = ap (encode jobBytes) (form-held held w same)
+    held-bytes e = ap (λ links. encode jobBytes (map J (jobsIn jobs w) ++ map L (linksIn links))) e ∙ ap (encode jobBytes) (form-held held w same)
 
     -- and their number
     pub held-length : length (normalBytes bytes) ≡ 12 * (length (presentIn jobs) + length (linksIn (chosen jobs w square)))
     held-length =
         let js = map J (jobsIn jobs w) in
         let ls = map L (linksIn (chosen jobs w square)) in
-        sym (ap length held-bytes)
+        sym (ap length (held-bytes refl))
         ∙ length-encode job-tables (js ++ ls)
         ∙ omega (arith, length-append js ls, length-jobs-in jobs w, length-map (linksIn (chosen jobs w square)) L)
 
