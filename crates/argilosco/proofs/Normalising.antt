@@ -5,7 +5,7 @@ use mathlib.Core.List.{List}
 use lib.ListN.{length}
 use Rattle.records.specs.Outcome.{overwrite}
 use Rattle.normal.specs.Call.{normalBytes, normaliseNumber, normalise}
-use Rattle.argilosco.specs.Promise.{Keeps, NormalisePromise}
+use Rattle.argilosco.specs.Promise.{NormalisePromise}
 use Rattle.argilosco.specs.declared.Written.{Written}
 
 module _ (bytes before : List ℕ) where

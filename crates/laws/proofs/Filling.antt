@@ -1,6 +1,6 @@
 -- A loop that fills a list from the front, one element a turn: below the place that it has reached, the list holds what a function gives at each place.
 -- When every place is filled, the list is what the function gives at the numbers from 0 on.
-use Prim.Native.Nat.{ℕ, _+_, _<_, _≤_}
+use Prim.Native.Nat.{ℕ, _+_, _<_}
 use native.Mathlib.Nat.{zero-add}
 use native.Mathlib.Omega.{arith}
 use mathlib.Core.Path.{_≡_, refl, sym, ap, _∙_}

@@ -1,10 +1,9 @@
 -- What a call finds out step by step, in terms of its number: which of 1 to 9 normalising gives, from what the code tested under its ceiling; and that the code then holds a table that is not refused.
-use Prim.Native.Nat.{ℕ, suc, _+_, _*_, _<_, _≤_}
+use Prim.Native.Nat.{ℕ, _+_, _*_, _<_, _≤_}
 use native.Mathlib.Omega.{arith}
 use mathlib.Core.Path.{_≡_, refl, sym, ap, _∙_}
 use mathlib.Core.Bool.{Bool, true, false}
 use mathlib.Core.List.{List, map, _++_}
-use lib.Dec.{ltb}
 use lib.ListN.{length, length-append, length-map}
 use borrow.Author.Tests.{lt-ltb, le-ltb}
 use Rattle.laws.specs.Lists.{found}
@@ -22,13 +21,12 @@ use Rattle.jobs.proofs.WellFormed.{WellFormed, well-formed-number}
 use Rattle.normal.specs.declared.Windows.{Windows}
 use Rattle.normal.specs.Gaps.{Square, gaps, ringIn}
 use Rattle.normal.specs.Windows.{noStarts, windows}
-use Rattle.normal.specs.Normal.{normalForm}
 use Rattle.normal.specs.Call.{startsNumber, normalBytes, normaliseNumber}
 use Rattle.normal.specs.Arrays.{ceiling, capped, Holds}
 use Rattle.normal.specs.Chosen.{presentIn, jobsIn, chosen, linksIn}
 use Rattle.normal.proofs.Ceiling.{capped-within}
 use Rattle.normal.proofs.CeilingTells.{ring-capped, starts-capped, gaps-capped}
-use Rattle.normal.proofs.CanonicalBytes.{Accepted, accepted-later}
+use Rattle.normal.proofs.CanonicalBytes.{accepted-later}
 use Rattle.normal.proofs.Held.{normalisable}
 use Rattle.normal.proofs.WriteLoops.{length-jobs-in}
 use Rattle.normal.proofs.FormHeld.{form-held}

@@ -1,14 +1,14 @@
 -- A square of gaps under a ceiling above 48,000 tells the same of 7 and of 8, and where neither holds it is the square of gaps itself.
 -- A cell under the ceiling is 0 exactly when the cell is. A gap above the ceiling makes the job it leads to late, under the ceiling too: cutting down the gaps cuts an earliest start down to the ceiling at most.
-use Prim.Native.Nat.{ℕ, zero, suc, _+_, _<_, _≤_, min, max}
+use Prim.Native.Nat.{ℕ, zero, suc, _+_, _<_, _≤_, min}
 use native.Mathlib.Nat.{min-zero}
 use native.Mathlib.Omega.{arith}
 use mathlib.Core.Path.{_≡_, refl, sym, ap, ap₂, _∙_}
-use mathlib.Core.Bool.{Bool, true, false, not, _||_}
+use mathlib.Core.Bool.{Bool, true, not, _||_}
 use mathlib.Core.List.{List, [], _∷_, map, List·Memᴰ, List·Memᴰ·head, List·Memᴰ·tail}
-use lib.Dec.{eqb, ltb}
-use lib.ListN.{length, getD, List·getD-map}
-use borrow.Author.Tests.{ltb-true, ltb-false, lt-ltb, eqb-true, eq-eqb, ne-eqb}
+use lib.Dec.{eqb}
+use lib.ListN.{getD, List·getD-map}
+use borrow.Author.Tests.{ltb-true, lt-ltb, eqb-true, eq-eqb}
 use Rattle.laws.specs.Lists.{count, any, largest, Every}
 use Rattle.laws.proofs.Members.{same-test}
 use Rattle.records.specs.declared.JobRecord.{JobRecord}
@@ -17,7 +17,7 @@ use Rattle.jobs.specs.Jobs.{numbers, cost, release, deadline}
 use Rattle.jobs.proofs.Sound.{deadline-limit}
 use Rattle.normal.specs.Gaps.{Square, cell, gaps, ringIn}
 use Rattle.normal.specs.Windows.{after, earliestOf, noStarts}
-use Rattle.normal.specs.Arrays.{capped, RowWithin, Within}
+use Rattle.normal.specs.Arrays.{capped, RowWithin}
 use Rattle.normal.proofs.Chains.{chain-from}
 use Rattle.normal.proofs.WindowsEarliest.{Normalisable, gapsRight, gap, gap-chain, chain-to, gap-earliest, earliest-ends}
 use Rattle.normal.proofs.Ceiling.{within-stays}

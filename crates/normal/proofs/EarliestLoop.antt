@@ -1,14 +1,14 @@
 -- The loop for the earliest start of a job: at turn i it is the later of the time at hand and of what the jobs from i on ask.
 use Prim.Native.Nat.{ℕ, _+_, _<_, _≤_, max}
 use native.Mathlib.Omega.{arith}
-use mathlib.Core.Path.{_≡_, refl, sym, ap, _∙_}
+use mathlib.Core.Path.{_≡_, sym, ap, _∙_}
 use mathlib.Core.Bool.{true, false}
 use mathlib.Core.List.{List, map}
 use lib.ListN.{getD}
 use Rattle.laws.specs.Lists.{largest}
 use Rattle.records.specs.declared.JobRecord.{JobRecord}
 use Rattle.jobs.specs.declared.Jobs.{Jobs}
-use Rattle.jobs.specs.Jobs.{numbers, release}
+use Rattle.jobs.specs.Jobs.{release}
 use Rattle.jobs.specs.Arrays.{jobsOf}
 use Rattle.normal.specs.Gaps.{Square, cell}
 use Rattle.normal.specs.Windows.{after, earliestOf}

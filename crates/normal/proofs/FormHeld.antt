@@ -13,7 +13,6 @@ use Rattle.laws.specs.Lists.{count, any, keep, only, flat}
 use Rattle.laws.proofs.Members.{true-not-false, count-member, keep-same, map-same, flat-same}
 use Rattle.laws.proofs.Rows.{getD-row}
 use Rattle.records.specs.Record.{job, link}
-use Rattle.records.specs.declared.Job.{Job}
 use Rattle.records.specs.declared.Link.{Link}
 use Rattle.records.specs.declared.JobRecord.{JobRecord}
 use Rattle.records.specs.declared.JobRecord.the-variants.{J, L}
@@ -22,7 +21,7 @@ use Rattle.jobs.specs.Judge.{isJob}
 use Rattle.jobs.specs.Jobs.{numbers, cost, jobAt, jobsInOrder}
 use Rattle.jobs.proofs.Sound.{numbers-member, numbers-below, deadline-limit}
 use Rattle.normal.specs.declared.Windows.{Windows}
-use Rattle.normal.specs.Gaps.{Square, cell, gaps}
+use Rattle.normal.specs.Gaps.{Square, cell}
 use Rattle.normal.specs.Windows.{lastStart, latestOf, windows}
 use Rattle.normal.specs.Normal.{normalJob, pairLink, normalLinks, normalRecords, normalBy, normalForm}
 use Rattle.normal.specs.Arrays.{Holds}

@@ -1,10 +1,9 @@
 -- The rounds of the code, through the jobs that are present by rising number: what is left to do to the square at each turn, cut down to the ceiling, is what was to do at first.
 -- The square of the links that the rounds begin with is the definition's, cut down to the ceiling.
 use Prim.Native.Nat.{ℕ, _+_, _<_, _≤_, min}
-use native.Mathlib.Omega.{arith}
-use mathlib.Core.Path.{_≡_, refl, sym, ap, ap₂, _∙_}
+use mathlib.Core.Path.{_≡_, sym, ap, ap₂, _∙_}
 use mathlib.Core.Bool.{true, false}
-use mathlib.Core.List.{List, [], _∷_, map, map-map, List·Memᴰ}
+use mathlib.Core.List.{List, [], map, map-map}
 use lib.ListN.{length, getD, length-map}
 use Rattle.laws.specs.Lists.{count}
 use Rattle.laws.proofs.Members.{map-same, count-member}

@@ -1,9 +1,9 @@
 -- What the code holds of a table that 3 to 8 do not refuse fits: no job's cost is above its deadline, no gap above a last start that it leads to, and each earliest start is a 16-bit number.
 -- Chains join jobs of the table, whose earliest starts keep the deadlines; at a number of no job there is only 0.
-use Prim.Native.Nat.{ℕ, zero, suc, _+_, _-_, _<_, _≤_}
+use Prim.Native.Nat.{ℕ, zero, suc, _-_, _<_, _≤_}
 use native.Mathlib.Omega.{arith}
-use mathlib.Core.Path.{_≡_, refl, sym, ap, _∙_}
-use mathlib.Core.Bool.{Bool, true, false, cond, _||_}
+use mathlib.Core.Path.{_≡_, refl, sym, _∙_}
+use mathlib.Core.Bool.{true, false}
 use mathlib.Core.Logic.{_⊎_, inl, inr}
 use mathlib.Core.List.{List, [], _∷_, List·Memᴰ}
 use lib.Dec.{eqb}
@@ -17,7 +17,7 @@ use Rattle.jobs.specs.declared.Jobs.{Jobs}
 use Rattle.jobs.specs.Judge.{isJob}
 use Rattle.jobs.specs.Jobs.{numbers, ofJob, cost, release, deadline}
 use Rattle.jobs.proofs.Sound.{numbers-member, deadline-limit}
-use Rattle.normal.specs.Gaps.{Square, cell, gaps}
+use Rattle.normal.specs.Gaps.{Square, cell}
 use Rattle.normal.specs.Windows.{earliestOf}
 use Rattle.normal.specs.Arrays.{Holds}
 use Rattle.normal.proofs.Chains.{chain-from}

@@ -1,13 +1,13 @@
 -- The loop for the latest start of a job: at turn k it is the earlier of the time at hand, which is by the job's last start, and of what the jobs from k on ask.
 use Prim.Native.Nat.{ℕ, zero, suc, _+_, _-_, _<_, _≤_, min}
 use native.Mathlib.Omega.{arith}
-use mathlib.Core.Path.{_≡_, refl, sym, ap, ap₂, _∙_}
+use mathlib.Core.Path.{_≡_, sym, ap, ap₂, _∙_}
 use mathlib.Core.Bool.{true, false}
-use mathlib.Core.List.{List, _∷_, map}
+use mathlib.Core.List.{List, map}
 use lib.ListN.{getD}
 use Rattle.records.specs.declared.JobRecord.{JobRecord}
 use Rattle.jobs.specs.declared.Jobs.{Jobs}
-use Rattle.jobs.specs.Jobs.{numbers, cost, deadline}
+use Rattle.jobs.specs.Jobs.{cost, deadline}
 use Rattle.jobs.specs.Arrays.{jobsOf}
 use Rattle.normal.specs.Gaps.{Square, cell}
 use Rattle.normal.specs.Windows.{before, smallest, lastStart, latestOf}

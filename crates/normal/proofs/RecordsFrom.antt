@@ -4,7 +4,7 @@ use native.Mathlib.Omega.{arith}
 use mathlib.Core.Path.{_≡_, refl, ap, _∙_}
 use mathlib.Core.Bool.{true, false}
 use mathlib.Core.List.{List, [], _∷_, _++_}
-use lib.ListN.{length, getD}
+use lib.ListN.{getD}
 use Rattle.laws.specs.Lists.{count, keep, flat}
 use Rattle.laws.proofs.Scanning.{keep-taken, keep-left, keep-none, flat-more, flat-none}
 use Rattle.records.specs.Record.{link}

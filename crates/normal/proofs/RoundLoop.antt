@@ -1,7 +1,6 @@
 -- One round, row by row in place: at row i the rows before it have the chains through job k, cut down to the ceiling, and the others are as they were.
 -- The row through k was taken out before, so that it does not matter when its own turn comes.
 use Prim.Native.Nat.{ℕ, zero, suc, _+_, _<_, _≤_, min}
-use native.Mathlib.Omega.{arith}
 use mathlib.Core.Path.{_≡_, refl, sym, ap, _∙_}
 use mathlib.Core.List.{List, [], map, map-map}
 use lib.ListN.{length, getD, set}

@@ -1,15 +1,14 @@
 -- The loops that write the normal form: at each turn the records from there on are left to be written, and there is room for them.
 use Prim.Native.Nat.{ℕ, _+_, _*_, _-_, _<_, _≤_}
 use native.Mathlib.Omega.{arith}
-use mathlib.Core.Path.{_≡_, refl, sym, ap, _∙_}
+use mathlib.Core.Path.{_≡_, sym, ap, _∙_}
 use mathlib.Core.Bool.{true, false}
-use mathlib.Core.List.{List, [], _∷_, _++_, map, map-append}
+use mathlib.Core.List.{List, [], _++_, map, map-append}
 use lib.ListN.{length, getD, length-map, length-append}
 use lib.Seq.{paste}
 use Rattle.records.specs.Record.{jobBytes, link}
 use Rattle.records.specs.Table.{encode}
 use Rattle.records.specs.Outcome.{overwrite}
-use Rattle.records.specs.declared.Job.{Job}
 use Rattle.records.specs.declared.Link.{Link}
 use Rattle.records.specs.declared.JobRecord.{JobRecord}
 use Rattle.records.specs.declared.JobRecord.the-variants.{J, L}

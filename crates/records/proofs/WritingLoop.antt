@@ -1,16 +1,13 @@
 -- A loop that writes records one behind the other: what is left of them, written from the place at hand on, makes of the output at hand what all of them make of the output that was lent.
 use Prim.Native.Nat.{ℕ, _+_, _*_, _≤_}
-use native.Mathlib.Nat.{add-assoc}
 use native.Mathlib.Omega.{arith}
 use mathlib.Core.Path.{_≡_, refl, sym, ap, _∙_}
 use mathlib.Core.List.{List, [], _∷_, _++_}
 use mathlib.Core.Option.{Option}
 use lib.ListN.{length, length-append}
 use lib.Seq.{paste}
-use Rattle.records.specs.Table.{encode}
-use Rattle.records.specs.Outcome.{overwrite}
 use Rattle.records.proofs.Codec.{Codec}
-use Rattle.records.proofs.Writing.{written, written-none, written-one, written-append, written-first, length-written}
+use Rattle.records.proofs.Writing.{written, written-none, written-one, written-append, length-written}
 
 -- `before` was lent, for all records from the first place on; `now` is the output at hand, with the rest to come from the place at hand on
 pub record Writing {A : Type 0} (write : A → List ℕ) (before : List ℕ) (first : ℕ) (all : List A) (now : List ℕ) (place : ℕ) (rest : List A) : Type 0 where

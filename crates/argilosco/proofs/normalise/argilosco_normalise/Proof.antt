@@ -1,18 +1,16 @@
 -- `argilosco::normalise::argilosco_normalise` meets its contract: each test tells which of 1 to 9 the definition gives, under the code's ceiling,
 -- and past the last of them the code holds the table's square of gaps, so that what is written is its normal form. Assumes nothing.
-use Prim.Native.Nat.{ℕ, _+_, _*_}
+use Prim.Native.Nat.{ℕ, _+_}
 use native.Mathlib.Omega.{arith}
 use mathlib.Core.Path.{_≡_, refl, sym, ap, ap₂, _∙_}
 use mathlib.Core.List.{List}
 use lib.ListN.{length}
 use Rattle.records.specs.Outcome.{overwrite}
-use Rattle.jobs.specs.declared.Jobs.{Jobs}
 use Rattle.jobs.specs.Call.{jobTable}
 use Rattle.jobs.specs.Arrays.{jobsOf}
 use Rattle.jobs.proofs.WellFormed.{WellFormed, number-well-formed}
 use Rattle.normal.specs.Gaps as spec
-use Rattle.normal.specs.Call.{normaliseNumber}
-use Rattle.normal.specs.Arrays.{ceiling, capped, Within, Holds}
+use Rattle.normal.specs.Arrays.{ceiling, capped, Holds}
 use Rattle.normal.specs.Chosen.{presentIn, chosen, linksIn}
 use Rattle.normal.proofs.Ceiling.{capped-within}
 use Rattle.normal.proofs.FormHeld.{ends-fit, writable}
@@ -63,49 +61,38 @@ counted : (c : tie.After-count-links)
     → c .before .count-jobs .result + c .count-links .result ≡ length (presentIn (c .before .before .before .before .before .before .before .before .before .before .before .before .judge .result .jobs)) + length (linksIn (chosen (c .before .before .before .before .before .before .before .before .before .before .before .before .judge .result .jobs) (c .before .before .before .windows .result) (c .before .before .before .before .before .before .before .before .gaps .result)))
 counted c = ap₂ _+_ (c .before .count-jobs .ensures .1) (c .count-links .ensures .1 ∙ ap (λ links. length (linksIn links)) (c .before .before .choose .ensures))
 
--- src/normalise.rt:28:9
 judge-requires : tie.Need-judge-requires
 judge-requires c κs = search needs
 
--- src/normalise.rt:31:9
 refused-requires : tie.Need-refused-requires
 refused-requires c κs = search needs
 
--- src/normalise.rt:31:9
 returns : tie.Need-returns
 returns c = normalise-refused _ _ _ (c .before .if1 .taken) (jobs-normalised _ _ _ (c .before .if1 .taken) (sym (c .before .before .judge .ensures .number))) (c .refused .ensures)
 
--- src/normalise.rt:34:29
 load-links-requires : tie.Need-load-links-requires
 load-links-requires c κs = search needs
 
--- src/normalise.rt:34:9
 gaps-requires : tie.Need-gaps-requires
 gaps-requires c κs = search needs
 
--- src/normalise.rt:35:8
 ring-in-requires : tie.Need-ring-in-requires
 ring-in-requires c κs = search needs
 
--- src/normalise.rt:36:9
 refused-requires-2 : tie.Need-refused-requires-2
 refused-requires-2 c κs = search needs
 
--- src/normalise.rt:36:9
 returns-2 : tie.Need-returns-2
 returns-2 c =
     let g = c .before .before .before in
     normalise-refused _ _ 7 (λ e. omega arith) (ring-normalised (formed (g .before .before .before)) (made g) _ (sym (c .before .if2 .taken) ∙ c .before .before .ring-in .ensures)) (c .refused2 .ensures)
 
--- src/normalise.rt:38:8
 no-starts-requires : tie.Need-no-starts-requires
 no-starts-requires c κs = rw (made (c .before .before)) (capped-within ceiling _)
 
--- src/normalise.rt:39:9
 refused-requires-3 : tie.Need-refused-requires-3
 refused-requires-3 c κs = search needs
 
--- src/normalise.rt:39:9
 returns-3 : tie.Need-returns-3
 returns-3 c =
     let g = c .before .before .before .before .before in
@@ -114,55 +101,43 @@ returns-3 c =
     (starts-normalised (formed e) (made g) (sym (c .before .before .before .if2 .left) ∙ c .before .before .before .before .ring-in .ensures) _ (sym (c .before .if3 .taken) ∙ c .before .before .no-starts .ensures _ (same-jobs e)))
     (c .refused3 .ensures)
 
--- src/normalise.rt:41:9
 windows-requires : tie.Need-windows-requires
 windows-requires c κs = (_, holds c)
 
--- src/normalise.rt:42:9
 choose-requires : tie.Need-choose-requires
 choose-requires c κs = writable (holds (c .before))
 
--- src/normalise.rt:43:22
 count-jobs-requires : tie.Need-count-jobs-requires
 count-jobs-requires c κs = search needs
 
--- src/normalise.rt:43:41
 count-links-requires : tie.Need-count-links-requires
 count-links-requires c κs = search needs
 
--- src/normalise.rt:43:22
 add-room : tie.Need-add-room
 add-room c = search needs
 
--- src/normalise.rt:43:16
 mul-room : tie.Need-mul-room
 mul-room c = search needs
 
--- src/normalise.rt:45:9
 refused-requires-4 : tie.Need-refused-requires-4
 refused-requires-4 c κs = search needs
 
--- src/normalise.rt:45:9
 returns-4 : tie.Need-returns-4
 returns-4 c =
     let h = holds (c .before .before .before .before .before .before) in
     normalise-refused _ _ 9 (λ z. omega arith) (room-number (formed (c .before .before .before .before .before .before .before .before .before .before .before .before .before)) h (c .before .before .before .before .before .windows .result) (c .before .before .before .before .before .windows .ensures _ h) _ (omega (arith, counted (c .before .before)))) (c .refused4 .ensures)
 
--- src/normalise.rt:47:5
 write-normal-requires : tie.Need-write-normal-requires
 write-normal-requires c κs =
     let h = holds (c .before .before .before .before .before .before) in
     (ends-fit h _ (c .before .before .before .before .before .windows .ensures _ h), omega arith)
 
--- src/normalise.rt:50:18
 cast-t20 : tie.Need-cast-t20
 cast-t20 c = search needs
 
--- src/normalise.rt:24:1
 same-length : tie.Need-same-length
 same-length c = search needs
 
--- src/normalise.rt:24:1
 returns-5 : tie.Need-returns-5
 returns-5 c =
     let h = holds (c .before .before .before .before .before .before .before .before .before) in

@@ -19,59 +19,45 @@ Inv-loop jobs windows square earliest links₀ i₀ links i = (i ≤ 48) × (len
 abbrev μ-loop : tie.MeasureT-loop
 μ-loop jobs windows square earliest links₀ i₀ links i = 48 - i
 
--- src/choose.rt:48:5
 loop-holds : tie.Need-loop-holds Inv-loop μ-loop
 loop-holds c = (search needs, search needs, λ i h. absurd (omega arith))
 
--- src/choose.rt:49:31
 mul-choose-row : tie.Need-mul-choose-row Inv-loop μ-loop
 mul-choose-row c = search needs
 
--- src/choose.rt:49:31
 element-copy-out-choose-row : tie.Need-element-copy-out-choose-row Inv-loop μ-loop
 element-copy-out-choose-row c = search needs
 
--- src/choose.rt:49:45
 mul-choose-row-2 : tie.Need-mul-choose-row-2 Inv-loop μ-loop
 mul-choose-row-2 c = search needs
 
--- src/choose.rt:49:45
 element-copy-out-choose-row-2 : tie.Need-element-copy-out-choose-row-2 Inv-loop μ-loop
 element-copy-out-choose-row-2 c = search needs
 
--- src/choose.rt:49:74
 mul-choose-row-3 : tie.Need-mul-choose-row-3 Inv-loop μ-loop
 mul-choose-row-3 c = search needs
 
--- src/choose.rt:49:74
 array-copy-out-choose-row : tie.Need-array-copy-out-choose-row Inv-loop μ-loop
 array-copy-out-choose-row c = search needs
 
--- src/choose.rt:49:20
 choose-row-requires : tie.Need-choose-row-requires Inv-loop μ-loop
 choose-row-requires c κs = c .before .before .before .before .before .before .pre (c .before .before .before .before .loop .i)
 
--- src/choose.rt:49:9
 mul-links : tie.Need-mul-links Inv-loop μ-loop
 mul-links c = search needs
 
--- src/choose.rt:49:9
 array-set-from-links : tie.Need-array-set-from-links Inv-loop μ-loop
 array-set-from-links c = search needs
 
--- src/choose.rt:50:9
 add-i : tie.Need-add-i Inv-loop μ-loop
 add-i c = search needs
 
--- src/choose.rt:48:5
 loop-less : tie.Need-loop-less Inv-loop μ-loop
 loop-less c = search needs
 
--- src/choose.rt:48:5
 loop-again : tie.Need-loop-again Inv-loop μ-loop
 loop-again c = (search needs, search needs, filled-more [] _ (c .before .before .before .before .before .loop .i) (c .before .before .before .before .before .loop .links) (c .before .before .before .before .before .loop .inv .2) (omega arith) (c .choose-row .ensures))
 
--- src/choose.rt:41:1
 returns : tie.Need-returns Inv-loop μ-loop
 unfolding chosen
 returns c =

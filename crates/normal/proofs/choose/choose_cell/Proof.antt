@@ -8,31 +8,24 @@ use Rattle.normal.proofs.choose.choose_cell.Tie as tie
 use Rattle.normal.proofs.choose.choose_cell.Reads as reads
 use Rattle.normal.proofs.choose.choose_cell.Lts as lts
 
--- src/choose.rt:18:9
 returns : tie.Need-returns
 returns c = sym (chosen-none _ _ _ _ (c .if1 .taken))
 
--- src/choose.rt:20:28
 add-if2 : tie.Need-add-if2
 add-if2 c = search needs
 
--- src/choose.rt:21:17
 sub-result : tie.Need-sub-result
 sub-result c = c .before .before .pre .1 (omega arith)
 
--- src/choose.rt:21:17
 add-result : tie.Need-add-result
 add-result c = search needs
 
--- src/choose.rt:21:16
 cast-result : tie.Need-cast-result
 cast-result c = search needs
 
--- src/choose.rt:21:9
 returns-2 : tie.Need-returns-2
 returns-2 c = sym (chosen-over _ _ _ _ (c .before .if1 .left) (c .if2 .taken))
 
--- src/choose.rt:13:1
 returns-3 : tie.Need-returns-3
 returns-3 c = sym (chosen-under _ _ _ _ (c .before .if1 .left) (c .if2 .left))
 

@@ -18,51 +18,39 @@ Inv-loop cost latest earliest row links₀ j₀ links j = (j ≤ 48) × (length 
 abbrev μ-loop : tie.MeasureT-loop
 μ-loop cost latest earliest row links₀ j₀ links j = 48 - j
 
--- src/choose.rt:33:5
 loop-holds : tie.Need-loop-holds Inv-loop μ-loop
 loop-holds c = (search needs, search needs, λ i h. absurd (omega arith))
 
--- src/choose.rt:34:46
 mul-choose-cell : tie.Need-mul-choose-cell Inv-loop μ-loop
 mul-choose-cell c = search needs
 
--- src/choose.rt:34:46
 array-read-choose-cell : tie.Need-array-read-choose-cell Inv-loop μ-loop
 array-read-choose-cell c = search needs
 
--- src/choose.rt:34:59
 mul-choose-cell-2 : tie.Need-mul-choose-cell-2 Inv-loop μ-loop
 mul-choose-cell-2 c = search needs
 
--- src/choose.rt:34:59
 array-read-choose-cell-2 : tie.Need-array-read-choose-cell-2 Inv-loop μ-loop
 array-read-choose-cell-2 c = search needs
 
--- src/choose.rt:34:20
 choose-cell-requires : tie.Need-choose-cell-requires Inv-loop μ-loop
 choose-cell-requires c κs = c .before .before .pre (c .before .loop .j)
 
--- src/choose.rt:34:9
 mul-links : tie.Need-mul-links Inv-loop μ-loop
 mul-links c = search needs
 
--- src/choose.rt:34:9
 array-write-links : tie.Need-array-write-links Inv-loop μ-loop
 array-write-links c = search needs
 
--- src/choose.rt:35:9
 add-j : tie.Need-add-j Inv-loop μ-loop
 add-j c = search needs
 
--- src/choose.rt:33:5
 loop-less : tie.Need-loop-less Inv-loop μ-loop
 loop-less c = search needs
 
--- src/choose.rt:33:5
 loop-again : tie.Need-loop-again Inv-loop μ-loop
 loop-again c = (search needs, search needs, filled-more 0 _ (c .before .before .loop .j) (c .before .before .loop .links) (c .before .before .loop .inv .2) (omega arith) (c .choose-cell .ensures))
 
--- src/choose.rt:27:1
 returns : tie.Need-returns Inv-loop μ-loop
 unfolding chosenRow
 returns c =

@@ -1,12 +1,10 @@
 -- `normal::gaps::gaps` meets its contract. The loop's invariant: the rounds that are left make of the square at hand what all of them make of the square of the links. Assumes nothing.
 use Prim.Native.Nat.{_≤_, _-_}
-use mathlib.Core.Path.{_≡_, _∙_}
+use mathlib.Core.Path.{_∙_}
 use mathlib.Core.Logic.{⊎-elim}
 use native.Mathlib.Omega.{arith}
 use borrow.Author.Needs.{needs}
-use lib.ListN.{length}
-use Rattle.normal.specs.Arrays.{ceiling, Within}
-use Rattle.normal.proofs.Ceiling.{capped-within}
+use Rattle.normal.specs.Arrays.{ceiling}
 use Rattle.normal.proofs.GapsLoop.{Rounding, rounding-first, rounding-present, rounding-absent, rounding-end}
 use Rattle.normal.proofs.gaps.gaps.Statement.{statement}
 use Rattle.normal.proofs.gaps.gaps.Tie as tie
@@ -21,31 +19,24 @@ Inv-loop jobs square₀ k₀ square k = (k ≤ 48) × Rounding ceiling jobs squa
 abbrev μ-loop : tie.MeasureT-loop
 μ-loop jobs square₀ k₀ square k = 48 - k
 
--- src/gaps.rt:108:22
 link-square-requires : tie.Need-link-square-requires Inv-loop μ-loop
 link-square-requires c κs = search needs
 
--- src/gaps.rt:110:5
 loop-holds : tie.Need-loop-holds Inv-loop μ-loop
 loop-holds c = (search needs, rounding-first ceiling (c .before .before .args .t1) (c .before .before .args .links) _ (c .link-square .ensures))
 
--- src/gaps.rt:111:12
 element-copy-out-if1 : tie.Need-element-copy-out-if1 Inv-loop μ-loop
 element-copy-out-if1 c = search needs
 
--- src/gaps.rt:112:13
 round-requires : tie.Need-round-requires Inv-loop μ-loop
 round-requires c κs = search needs
 
--- src/gaps.rt:114:9
 add-k : tie.Need-add-k Inv-loop μ-loop
 add-k c = search needs
 
--- src/gaps.rt:110:5
 loop-less : tie.Need-loop-less Inv-loop μ-loop
 loop-less c = search needs
 
--- src/gaps.rt:110:5
 loop-again : tie.Need-loop-again Inv-loop μ-loop
 loop-again c =
     let a = c .before .before .before .before .before .before .args in
@@ -57,7 +48,6 @@ loop-again c =
           (c .if1 .came),
     )
 
--- src/gaps.rt:104:1
 returns : tie.Need-returns Inv-loop μ-loop
 returns c =
     let l = c .before .loop in

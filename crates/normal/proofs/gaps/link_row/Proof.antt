@@ -19,43 +19,33 @@ Inv-loop cost links row₀ j₀ row j = (j ≤ 48) × (length row ≡ 48) × (le
 abbrev μ-loop : tie.MeasureT-loop
 μ-loop cost links row₀ j₀ row j = 48 - j
 
--- src/gaps.rt:34:5
 loop-holds : tie.Need-loop-holds Inv-loop μ-loop
 loop-holds c = (search needs, search needs, search needs, λ i h. absurd (omega arith))
 
--- src/gaps.rt:35:34
 mul-link-cell : tie.Need-mul-link-cell Inv-loop μ-loop
 mul-link-cell c = search needs
 
--- src/gaps.rt:35:34
 array-read-link-cell : tie.Need-array-read-link-cell Inv-loop μ-loop
 array-read-link-cell c = search needs
 
--- src/gaps.rt:35:18
 link-cell-requires : tie.Need-link-cell-requires Inv-loop μ-loop
 link-cell-requires c κs = search needs
 
--- src/gaps.rt:35:9
 mul-row : tie.Need-mul-row Inv-loop μ-loop
 mul-row c = search needs
 
--- src/gaps.rt:35:9
 array-write-row : tie.Need-array-write-row Inv-loop μ-loop
 array-write-row c = search needs
 
--- src/gaps.rt:36:9
 add-j : tie.Need-add-j Inv-loop μ-loop
 add-j c = search needs
 
--- src/gaps.rt:34:5
 loop-less : tie.Need-loop-less Inv-loop μ-loop
 loop-less c = search needs
 
--- src/gaps.rt:34:5
 loop-again : tie.Need-loop-again Inv-loop μ-loop
 loop-again c = (search needs, search needs, search needs, filled-more 0 _ (c .before .before .loop .j) (c .before .before .loop .row) (c .before .before .loop .inv .3) (omega arith) (c .link-cell .ensures))
 
--- src/gaps.rt:29:1
 returns : tie.Need-returns Inv-loop μ-loop
 returns c =
     let end : c .before .loop .j ≡ 48 = omega arith in

@@ -20,51 +20,39 @@ Inv-loop cost links square₀ i₀ square i = (i ≤ 48) × (length square ≡ 4
 abbrev μ-loop : tie.MeasureT-loop
 μ-loop cost links square₀ i₀ square i = 48 - i
 
--- src/gaps.rt:47:5
 loop-holds : tie.Need-loop-holds Inv-loop μ-loop
 loop-holds c = (search needs, search needs, λ i h. absurd (omega arith))
 
--- src/gaps.rt:48:30
 mul-link-row : tie.Need-mul-link-row Inv-loop μ-loop
 mul-link-row c = search needs
 
--- src/gaps.rt:48:30
 array-read-link-row : tie.Need-array-read-link-row Inv-loop μ-loop
 array-read-link-row c = search needs
 
--- src/gaps.rt:48:39
 mul-link-row-2 : tie.Need-mul-link-row-2 Inv-loop μ-loop
 mul-link-row-2 c = search needs
 
--- src/gaps.rt:48:39
 array-copy-out-link-row : tie.Need-array-copy-out-link-row Inv-loop μ-loop
 array-copy-out-link-row c = search needs
 
--- src/gaps.rt:48:21
 link-row-requires : tie.Need-link-row-requires Inv-loop μ-loop
 link-row-requires c κs = search needs
 
--- src/gaps.rt:48:9
 mul-square : tie.Need-mul-square Inv-loop μ-loop
 mul-square c = search needs
 
--- src/gaps.rt:48:9
 array-set-from-square : tie.Need-array-set-from-square Inv-loop μ-loop
 array-set-from-square c = search needs
 
--- src/gaps.rt:49:9
 add-i : tie.Need-add-i Inv-loop μ-loop
 add-i c = search needs
 
--- src/gaps.rt:47:5
 loop-less : tie.Need-loop-less Inv-loop μ-loop
 loop-less c = search needs
 
--- src/gaps.rt:47:5
 loop-again : tie.Need-loop-again Inv-loop μ-loop
 loop-again c = (search needs, search needs, filled-more [] _ (c .before .before .before .loop .i) (c .before .before .before .loop .square) (c .before .before .before .loop .inv .2) (omega arith) (c .link-row .ensures))
 
--- src/gaps.rt:42:1
 returns : tie.Need-returns Inv-loop μ-loop
 unfolding capped weighed
 returns c =

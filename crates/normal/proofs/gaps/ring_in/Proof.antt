@@ -2,7 +2,6 @@
 use Prim.Native.Nat.{_≤_, _-_}
 use mathlib.Core.Path.{_≡_, refl, sym, ap, _∙_}
 use mathlib.Core.Bool.{not}
-use native.Mathlib.Omega.{arith}
 use borrow.Author.Needs.{needs}
 use borrow.Author.Tests.{eq-eqb, ne-eqb}
 use lib.Dec.{eqb}
@@ -21,44 +20,34 @@ Inv-loop square i₀ i = (i ≤ 48) × (ringIn square ≡ any (λ k. not (eqb (c
 abbrev μ-loop : tie.MeasureT-loop
 μ-loop square i₀ i = 48 - i
 
--- src/gaps.rt:124:5
 loop-holds : tie.Need-loop-holds Inv-loop μ-loop
 unfolding ringIn
 loop-holds c = (search needs, refl)
 
--- src/gaps.rt:125:12
 mul-if1 : tie.Need-mul-if1 Inv-loop μ-loop
 mul-if1 c = search needs
 
--- src/gaps.rt:125:12
 mul-if1-2 : tie.Need-mul-if1-2 Inv-loop μ-loop
 mul-if1-2 c = search needs
 
--- src/gaps.rt:125:12
 index-1-if1 : tie.Need-index-1-if1 Inv-loop μ-loop
 index-1-if1 c = search needs
 
--- src/gaps.rt:125:12
 index-2-if1 : tie.Need-index-2-if1 Inv-loop μ-loop
 index-2-if1 c = search needs
 
--- src/gaps.rt:126:13
 returns : tie.Need-returns Inv-loop μ-loop
 returns c = sym (c .before .before .before .loop .inv .1 ∙ any-taken _ _ 48 (c .before .before .loop-test .taken) (ap not (ne-eqb _ _ (c .if1 .taken))))
 
--- src/gaps.rt:128:9
 add-i : tie.Need-add-i Inv-loop μ-loop
 add-i c = search needs
 
--- src/gaps.rt:124:5
 loop-less : tie.Need-loop-less Inv-loop μ-loop
 loop-less c = search needs
 
--- src/gaps.rt:124:5
 loop-again : tie.Need-loop-again Inv-loop μ-loop
 loop-again c = (search needs, c .before .before .before .loop .inv .1 ∙ any-left _ _ 48 (c .before .before .loop-test .taken) (ap not (eq-eqb _ _ (c .if1 .left))))
 
--- src/gaps.rt:120:1
 returns-2 : tie.Need-returns-2 Inv-loop μ-loop
 returns-2 c = sym (c .before .loop .inv .1 ∙ any-none _ _ 48 (c .loop-test .left))
 

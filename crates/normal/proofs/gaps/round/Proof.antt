@@ -1,14 +1,13 @@
 -- `normal::gaps::round` meets its contract. The loop's invariant: the rows before i have the chains through k, and the others are as they were. Assumes nothing.
-use Prim.Native.Nat.{ℕ, _≤_, _-_, min}
-use mathlib.Core.Path.{_≡_, refl, sym, ap, _∙_}
+use Prim.Native.Nat.{_≤_, _-_}
+use mathlib.Core.Path.{_≡_, refl, _∙_}
 use mathlib.Core.Logic.{⊎-elim}
-use mathlib.Core.List.{List, [], map}
+use mathlib.Core.List.{[]}
 use native.Mathlib.Omega.{arith}
 use borrow.Author.Needs.{needs}
 use lib.ListN.{length, getD}
 use Rattle.laws.proofs.Lists.{every-getD}
-use Rattle.normal.specs.Gaps.{throughRow, round}
-use Rattle.normal.specs.Arrays.{ceiling, capped, RowWithin}
+use Rattle.normal.specs.Arrays.{ceiling, RowWithin}
 use Rattle.normal.proofs.RoundLoop.{passing, row-of, row-now, row-left, row-taken, rows-done}
 use borrow.Author.Needs.{needs}
 use Rattle.normal.proofs.gaps.round.Statement.{statement}
@@ -23,43 +22,33 @@ Inv-loop k square₀ through i₀ square i = (i ≤ 48) × (length square₀ ≡
 abbrev μ-loop : tie.MeasureT-loop
 μ-loop k square₀ through i₀ square i = 48 - i
 
--- src/gaps.rt:91:19
 mul-through : tie.Need-mul-through Inv-loop μ-loop
 mul-through c = search needs
 
--- src/gaps.rt:91:19
 element-copy-out-through : tie.Need-element-copy-out-through Inv-loop μ-loop
 element-copy-out-through c = search needs
 
--- src/gaps.rt:93:5
 loop-holds : tie.Need-loop-holds Inv-loop μ-loop
 loop-holds c = (search needs, search needs, refl)
 
--- src/gaps.rt:94:17
 mul-a : tie.Need-mul-a Inv-loop μ-loop
 mul-a c = search needs
 
--- src/gaps.rt:94:17
 mul-a-2 : tie.Need-mul-a-2 Inv-loop μ-loop
 mul-a-2 c = search needs
 
--- src/gaps.rt:94:17
 index-1-a : tie.Need-index-1-a Inv-loop μ-loop
 index-1-a c = search needs
 
--- src/gaps.rt:94:17
 index-2-a : tie.Need-index-2-a Inv-loop μ-loop
 index-2-a c = search needs
 
--- src/gaps.rt:96:40
 mul-widened-row : tie.Need-mul-widened-row Inv-loop μ-loop
 mul-widened-row c = search needs
 
--- src/gaps.rt:96:40
 element-copy-out-widened-row : tie.Need-element-copy-out-widened-row Inv-loop μ-loop
 element-copy-out-widened-row c = search needs
 
--- src/gaps.rt:96:25
 widened-row-requires : tie.Need-widened-row-requires Inv-loop μ-loop
 widened-row-requires c κs =
     let a = c .before .before .before .before .before .before .args in
@@ -68,23 +57,18 @@ widened-row-requires c κs =
     let within : RowWithin ceiling (getD (l .square) (l .i) []) = rw (row-now ceiling (a .k) (a .square .now) (p .2) (l .i) (l .square) (omega arith) (l .inv .2)) (row-of ceiling (a .k) (a .square .now) (p .2) (l .i)) in
     (search needs, every-getD (λ x. x ≤ ceiling) (getD (l .square) (l .i) []) 0 (omega arith) within (a .k), within, row-of ceiling (a .k) (a .square .now) (p .2) (a .k))
 
--- src/gaps.rt:96:13
 mul-t23 : tie.Need-mul-t23 Inv-loop μ-loop
 mul-t23 c = search needs
 
--- src/gaps.rt:96:13
 element-set-from-square : tie.Need-element-set-from-square Inv-loop μ-loop
 element-set-from-square c = search needs
 
--- src/gaps.rt:98:9
 add-i : tie.Need-add-i Inv-loop μ-loop
 add-i c = search needs
 
--- src/gaps.rt:93:5
 loop-less : tie.Need-loop-less Inv-loop μ-loop
 loop-less c = search needs
 
--- src/gaps.rt:93:5
 loop-again : tie.Need-loop-again Inv-loop μ-loop
 loop-again c =
     let a = c .before .before .before .before .before .args in
@@ -98,7 +82,6 @@ loop-again c =
           (c .if1 .came),
     )
 
--- src/gaps.rt:87:1
 returns : tie.Need-returns Inv-loop μ-loop
 returns c = c .before .loop .inv .2 ∙ rows-done ceiling (c .before .before .before .args .k) (c .before .before .before .args .square .now) (c .before .loop .i) (omega arith)
 

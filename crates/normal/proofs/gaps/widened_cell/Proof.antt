@@ -7,23 +7,18 @@ use Rattle.normal.proofs.gaps.widened_cell.Tie as tie
 use Rattle.normal.proofs.gaps.widened_cell.Reads as reads
 use Rattle.normal.proofs.gaps.widened_cell.Lts as lts
 
--- src/gaps.rt:60:9
 returns : tie.Need-returns
 returns c = rw (c .if1 .taken, joined-zero (c .before .args .a)) (omega arith)
 
--- src/gaps.rt:62:19
 add-through : tie.Need-add-through
 add-through c = search needs
 
--- src/gaps.rt:64:9
 returns-2 : tie.Need-returns-2
 returns-2 c = omega (arith, joined-sum (c .before .before .args .a) (c .before .before .args .b) (omega arith) (omega arith))
 
--- src/gaps.rt:67:9
 returns-3 : tie.Need-returns-3
 returns-3 c = omega (arith, joined-sum (c .before .before .before .args .a) (c .before .before .before .args .b) (omega arith) (omega arith))
 
--- src/gaps.rt:55:1
 returns-4 : tie.Need-returns-4
 returns-4 c = omega (arith, joined-sum (c .before .before .before .args .a) (c .before .before .before .args .b) (omega arith) (omega arith))
 

@@ -21,27 +21,21 @@ Inv-loop a row through next₀ j₀ next j = (j ≤ 48) × (length next ≡ 48) 
 abbrev μ-loop : tie.MeasureT-loop
 μ-loop a row through next₀ j₀ next j = 48 - j
 
--- src/gaps.rt:79:5
 loop-holds : tie.Need-loop-holds Inv-loop μ-loop
 loop-holds c = (search needs, search needs, search needs, search needs, λ i h. absurd (omega arith))
 
--- src/gaps.rt:80:32
 mul-widened-cell : tie.Need-mul-widened-cell Inv-loop μ-loop
 mul-widened-cell c = search needs
 
--- src/gaps.rt:80:32
 array-read-widened-cell : tie.Need-array-read-widened-cell Inv-loop μ-loop
 array-read-widened-cell c = search needs
 
--- src/gaps.rt:80:43
 mul-widened-cell-2 : tie.Need-mul-widened-cell-2 Inv-loop μ-loop
 mul-widened-cell-2 c = search needs
 
--- src/gaps.rt:80:43
 array-read-widened-cell-2 : tie.Need-array-read-widened-cell-2 Inv-loop μ-loop
 array-read-widened-cell-2 c = search needs
 
--- src/gaps.rt:80:19
 widened-cell-requires : tie.Need-widened-cell-requires Inv-loop μ-loop
 widened-cell-requires c κs = (
   every-getD (λ x. x ≤ ceiling) (c .before .before .args .t2) 0 (omega arith) (c .before .before .pre .2) (c .before .loop .j),
@@ -50,27 +44,21 @@ widened-cell-requires c κs = (
   every-getD (λ x. x ≤ ceiling) (c .before .before .args .t3) 0 (omega arith) (c .before .before .pre .3) (c .before .loop .j),
 )
 
--- src/gaps.rt:80:9
 mul-next : tie.Need-mul-next Inv-loop μ-loop
 mul-next c = search needs
 
--- src/gaps.rt:80:9
 array-write-next : tie.Need-array-write-next Inv-loop μ-loop
 array-write-next c = search needs
 
--- src/gaps.rt:81:9
 add-j : tie.Need-add-j Inv-loop μ-loop
 add-j c = search needs
 
--- src/gaps.rt:79:5
 loop-less : tie.Need-loop-less Inv-loop μ-loop
 loop-less c = search needs
 
--- src/gaps.rt:79:5
 loop-again : tie.Need-loop-again Inv-loop μ-loop
 loop-again c = (search needs, search needs, search needs, search needs, filled-more 0 _ (c .before .before .loop .j) (c .before .before .loop .next) (c .before .before .loop .inv .4) (omega arith) (c .widened-cell .ensures))
 
--- src/gaps.rt:73:1
 returns : tie.Need-returns Inv-loop μ-loop
 returns c =
     let end : c .before .loop .j ≡ 48 = omega arith in

@@ -7,19 +7,15 @@ use Rattle.normal.proofs.tighten.earlier.Tie as tie
 use Rattle.normal.proofs.tighten.earlier.Reads as reads
 use Rattle.normal.proofs.tighten.earlier.Lts as lts
 
--- src/tighten.rt:92:9
 returns : tie.Need-returns
 returns c = rw (c .if1 .taken) (omega arith)
 
--- src/tighten.rt:94:17
 sub-start : tie.Need-sub-start
 sub-start c = search needs
 
--- src/tighten.rt:96:9
 returns-2 : tie.Need-returns-2
 returns-2 c = omega (arith, before-gap (c .before .before .args .latest) (c .before .before .args .time) (c .before .before .args .gap) (omega arith))
 
--- src/tighten.rt:87:1
 returns-3 : tie.Need-returns-3
 returns-3 c = omega (arith, before-gap (c .before .before .args .latest) (c .before .before .args .time) (c .before .before .args .gap) (omega arith))
 

@@ -1,8 +1,7 @@
 -- `normal::tighten::earliest_of` meets its contract. The loop's invariant: the earliest start is the later of the time at hand and of what the jobs from i on ask. Assumes nothing.
 use Prim.Native.Nat.{_≤_, _<_, _-_}
-use mathlib.Core.Path.{_≡_, _∙_}
+use mathlib.Core.Path.{_∙_}
 use mathlib.Core.Logic.{⊎-elim}
-use native.Mathlib.Omega.{arith}
 use borrow.Author.Needs.{needs}
 use Rattle.normal.specs.Arrays.{ceiling}
 use Rattle.normal.proofs.Ceiling.{within-cell}
@@ -20,65 +19,50 @@ Inv-loop square j jobs earliest₀ i₀ earliest i = (i ≤ 48) × (earliest < 1
 abbrev μ-loop : tie.MeasureT-loop
 μ-loop square j jobs earliest₀ i₀ earliest i = 48 - i
 
--- src/tighten.rt:43:29
 mul-wide : tie.Need-mul-wide Inv-loop μ-loop
 mul-wide c = search needs
 
--- src/tighten.rt:43:29
 element-copy-out-wide : tie.Need-element-copy-out-wide Inv-loop μ-loop
 element-copy-out-wide c = search needs
 
--- src/tighten.rt:43:9
 wide-requires : tie.Need-wide-requires Inv-loop μ-loop
 wide-requires c κs = search needs
 
--- src/tighten.rt:45:5
 loop-holds : tie.Need-loop-holds Inv-loop μ-loop
 loop-holds c = (search needs, search needs, earliest-first _ _ _ _ (c .before .before .pre .0) (c .wide .ensures .0))
 
--- src/tighten.rt:46:12
 element-copy-out-if1 : tie.Need-element-copy-out-if1 Inv-loop μ-loop
 element-copy-out-if1 c = search needs
 
--- src/tighten.rt:47:40
 mul-later : tie.Need-mul-later Inv-loop μ-loop
 mul-later c = search needs
 
--- src/tighten.rt:47:40
 element-copy-out-later : tie.Need-element-copy-out-later Inv-loop μ-loop
 element-copy-out-later c = search needs
 
--- src/tighten.rt:47:57
 mul-later-2 : tie.Need-mul-later-2 Inv-loop μ-loop
 mul-later-2 c = search needs
 
--- src/tighten.rt:47:57
 mul-later-3 : tie.Need-mul-later-3 Inv-loop μ-loop
 mul-later-3 c = search needs
 
--- src/tighten.rt:47:57
 index-1-later : tie.Need-index-1-later Inv-loop μ-loop
 index-1-later c = search needs
 
--- src/tighten.rt:47:57
 index-2-later : tie.Need-index-2-later Inv-loop μ-loop
 index-2-later c = search needs
 
--- src/tighten.rt:47:13
 later-requires : tie.Need-later-requires Inv-loop μ-loop
 later-requires c κs =
     let s = c .before .before .before .before .before .before .before .before in
     (search needs, within-cell ceiling (s .args .square .now) (s .pre .1) _ _)
 
--- src/tighten.rt:49:9
 add-i : tie.Need-add-i Inv-loop μ-loop
 add-i c = search needs
 
--- src/tighten.rt:45:5
 loop-less : tie.Need-loop-less Inv-loop μ-loop
 loop-less c = search needs
 
--- src/tighten.rt:45:5
 loop-again : tie.Need-loop-again Inv-loop μ-loop
 loop-again c =
     let a = c .before .before .before .before .before .before .args in
@@ -88,7 +72,6 @@ loop-again c =
     (λ w. (search needs, rw (w .1) (l .inv .1), rw (w .1) (earliest-absent (a .t1) (a .square .now) (a .j) (l .i) (l .earliest) (c .before .before .loop-test .taken) (l .inv .2) (w .0 .left))))
     (c .if1 .came)
 
--- src/tighten.rt:38:1
 returns : tie.Need-returns Inv-loop μ-loop
 returns c = (search needs, earliest-end _ _ _ (c .before .loop .i) _ (c .loop-test .left) (c .before .loop .inv .2))
 

@@ -11,39 +11,30 @@ use Rattle.normal.proofs.tighten.late.Lts as lts
 use Rattle.normal.proofs.tighten.earliest_of.Reads as earliest-of-reads
 use Rattle.normal.proofs.tighten.wide.Reads as wide-reads
 
--- src/tighten.rt:59:15
 earliest-of-requires : tie.Need-earliest-of-requires
 earliest-of-requires c κs = search needs
 
--- src/tighten.rt:59:51
 mul-wide : tie.Need-mul-wide
 mul-wide c = search needs
 
--- src/tighten.rt:59:51
 element-copy-out-wide : tie.Need-element-copy-out-wide
 element-copy-out-wide c = search needs
 
--- src/tighten.rt:59:46
 wide-requires : tie.Need-wide-requires
 wide-requires c κs = search needs
 
--- src/tighten.rt:59:15
 add-end : tie.Need-add-end
 add-end c = search needs
 
--- src/tighten.rt:60:10
 mul-wide-2 : tie.Need-mul-wide-2
 mul-wide-2 c = search needs
 
--- src/tighten.rt:60:10
 element-copy-out-wide-2 : tie.Need-element-copy-out-wide-2
 element-copy-out-wide-2 c = search needs
 
--- src/tighten.rt:60:5
 wide-requires-2 : tie.Need-wide-requires-2
 wide-requires-2 c κs = search needs
 
--- src/tighten.rt:55:1
 returns : tie.Need-returns
 returns c table same =
     let s = c .before .before .before .before .before in

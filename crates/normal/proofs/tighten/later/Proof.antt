@@ -7,19 +7,15 @@ use Rattle.normal.proofs.tighten.later.Tie as tie
 use Rattle.normal.proofs.tighten.later.Reads as reads
 use Rattle.normal.proofs.tighten.later.Lts as lts
 
--- src/tighten.rt:28:9
 returns : tie.Need-returns
 returns c = rw (c .if1 .taken) (omega arith)
 
--- src/tighten.rt:30:17
 add-start : tie.Need-add-start
 add-start c = search needs
 
--- src/tighten.rt:32:9
 returns-2 : tie.Need-returns-2
 returns-2 c = omega (arith, after-gap (c .before .before .args .time) (c .before .before .args .gap) (omega arith))
 
--- src/tighten.rt:23:1
 returns-3 : tie.Need-returns-3
 returns-3 c = omega (arith, after-gap (c .before .before .args .time) (c .before .before .args .gap) (omega arith))
 

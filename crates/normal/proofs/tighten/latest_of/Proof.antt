@@ -1,8 +1,7 @@
 -- `normal::tighten::latest_of` meets its contract. The loop's invariant: the latest start is the earlier of the time at hand and of what the jobs from k on ask. Assumes nothing.
 use Prim.Native.Nat.{_≤_, _<_, _-_, min}
-use mathlib.Core.Path.{_≡_, ap, _∙_}
+use mathlib.Core.Path.{ap, _∙_}
 use mathlib.Core.Logic.{⊎-elim}
-use native.Mathlib.Omega.{arith}
 use borrow.Author.Needs.{needs}
 use Rattle.normal.specs.Gaps.{cell}
 use Rattle.normal.specs.Windows.{before}
@@ -21,83 +20,63 @@ Inv-loop square j jobs latest₀ k₀ latest k = (k ≤ 48) × (latest < 65536) 
 abbrev μ-loop : tie.MeasureT-loop
 μ-loop square j jobs latest₀ k₀ latest k = 48 - k
 
--- src/tighten.rt:107:33
 mul-last-start : tie.Need-mul-last-start Inv-loop μ-loop
 mul-last-start c = search needs
 
--- src/tighten.rt:107:33
 element-copy-out-last-start : tie.Need-element-copy-out-last-start Inv-loop μ-loop
 element-copy-out-last-start c = search needs
 
--- src/tighten.rt:107:51
 mul-last-start-2 : tie.Need-mul-last-start-2 Inv-loop μ-loop
 mul-last-start-2 c = search needs
 
--- src/tighten.rt:107:51
 element-copy-out-last-start-2 : tie.Need-element-copy-out-last-start-2 Inv-loop μ-loop
 element-copy-out-last-start-2 c = search needs
 
--- src/tighten.rt:107:9
 last-start-requires : tie.Need-last-start-requires Inv-loop μ-loop
 last-start-requires c κs = cost-fits (c .before .before .pre .1 .1) _ (c .before .before .pre .0)
 
--- src/tighten.rt:109:5
 loop-holds : tie.Need-loop-holds Inv-loop μ-loop
 loop-holds c = (search needs, search needs, latest-first _ _ _ _ (c .before .before .before .pre .0) (c .last-start .ensures .1))
 
--- src/tighten.rt:110:12
 element-copy-out-if1 : tie.Need-element-copy-out-if1 Inv-loop μ-loop
 element-copy-out-if1 c = search needs
 
--- src/tighten.rt:111:35
 mul-last-start-3 : tie.Need-mul-last-start-3 Inv-loop μ-loop
 mul-last-start-3 c = search needs
 
--- src/tighten.rt:111:35
 element-copy-out-last-start-3 : tie.Need-element-copy-out-last-start-3 Inv-loop μ-loop
 element-copy-out-last-start-3 c = search needs
 
--- src/tighten.rt:111:53
 mul-last-start-4 : tie.Need-mul-last-start-4 Inv-loop μ-loop
 mul-last-start-4 c = search needs
 
--- src/tighten.rt:111:53
 element-copy-out-last-start-4 : tie.Need-element-copy-out-last-start-4 Inv-loop μ-loop
 element-copy-out-last-start-4 c = search needs
 
--- src/tighten.rt:111:17
 last-start-requires-2 : tie.Need-last-start-requires-2 Inv-loop μ-loop
 last-start-requires-2 c κs = cost-fits (c .before .before .before .before .before .before .before .before .before .pre .1 .1) _ (c .before .before .before .before .loop-test .taken)
 
--- src/tighten.rt:112:44
 mul-earlier : tie.Need-mul-earlier Inv-loop μ-loop
 mul-earlier c = search needs
 
--- src/tighten.rt:112:44
 mul-earlier-2 : tie.Need-mul-earlier-2 Inv-loop μ-loop
 mul-earlier-2 c = search needs
 
--- src/tighten.rt:112:44
 index-1-earlier : tie.Need-index-1-earlier Inv-loop μ-loop
 index-1-earlier c = search needs
 
--- src/tighten.rt:112:44
 index-2-earlier : tie.Need-index-2-earlier Inv-loop μ-loop
 index-2-earlier c = search needs
 
--- src/tighten.rt:112:13
 earlier-requires : tie.Need-earlier-requires Inv-loop μ-loop
 earlier-requires c κs = (search needs, rw (c .before .last-start2 .ensures .1) (gap-fits (c .before .before .before .before .before .before .before .before .before .before .before .pre .1 .1) _ _ (c .before .before .before .before .before .before .loop-test .taken)))
 
--- src/tighten.rt:114:9
 add-k : tie.Need-add-k Inv-loop μ-loop
 add-k c = search needs
 
--- src/tighten.rt:109:5
 loop-less : tie.Need-loop-less Inv-loop μ-loop
 loop-less c = search needs
 
--- src/tighten.rt:109:5
 loop-again : tie.Need-loop-again Inv-loop μ-loop
 loop-again c =
     let a = c .before .before .before .before .before .before .before .args in
@@ -112,7 +91,6 @@ loop-again c =
     (λ w. (search needs, rw (w .1) (l .inv .1), rw (w .1) (latest-absent (a .t1) (a .square .now) (a .j) (l .k) (l .latest) (c .before .before .loop-test .taken) (l .inv .2) (w .0 .left))))
     (c .if1 .came)
 
--- src/tighten.rt:102:1
 returns : tie.Need-returns Inv-loop μ-loop
 returns c = (search needs, λ table held. latest-end _ _ _ (c .before .loop .k) _ (c .loop-test .left) (c .before .loop .inv .2) table (held .jobs-held))
 

@@ -1,8 +1,7 @@
 -- `normal::tighten::no_starts` meets its contract. The loop's invariant: some job is late exactly when one from j on is. Assumes nothing.
 use Prim.Native.Nat.{_≤_, _-_}
-use mathlib.Core.Path.{_≡_, sym, _∙_}
+use mathlib.Core.Path.{sym, _∙_}
 use mathlib.Core.Logic.{⊎-elim}
-use native.Mathlib.Omega.{arith}
 use borrow.Author.Needs.{needs}
 use Rattle.normal.proofs.StartsLoop.{LateFrom, late-first, late-here, late-present, late-absent, late-end}
 use Rattle.normal.proofs.tighten.no_starts.Statement.{statement}
@@ -17,33 +16,26 @@ Inv-loop jobs square j₀ j = (j ≤ 48) × LateFrom jobs square j
 abbrev μ-loop : tie.MeasureT-loop
 μ-loop jobs square j₀ j = 48 - j
 
--- src/tighten.rt:69:5
 loop-holds : tie.Need-loop-holds Inv-loop μ-loop
 loop-holds c = (search needs, late-first _ _)
 
--- src/tighten.rt:70:12
 element-copy-out-if1 : tie.Need-element-copy-out-if1 Inv-loop μ-loop
 element-copy-out-if1 c = search needs
 
--- src/tighten.rt:70:31
 late-requires : tie.Need-late-requires Inv-loop μ-loop
 late-requires c κs = search needs
 
--- src/tighten.rt:71:13
 returns : tie.Need-returns Inv-loop μ-loop
 returns c table same =
     let l = c .before .before .before .before .before .before in
     sym (late-here _ _ (l .loop .j) (c .before .before .before .before .before .loop-test .taken) (l .loop .inv .1) (c .before .before .before .if1 .taken) table same (sym (c .before .late .ensures table same) ∙ c .if2 .taken))
 
--- src/tighten.rt:73:9
 add-j : tie.Need-add-j Inv-loop μ-loop
 add-j c = search needs
 
--- src/tighten.rt:69:5
 loop-less : tie.Need-loop-less Inv-loop μ-loop
 loop-less c = search needs
 
--- src/tighten.rt:69:5
 loop-again : tie.Need-loop-again Inv-loop μ-loop
 loop-again c =
     let l = c .before .before .before .loop in (
@@ -54,7 +46,6 @@ loop-again c =
           (c .if1 .came),
     )
 
--- src/tighten.rt:64:1
 returns-2 : tie.Need-returns-2 Inv-loop μ-loop
 returns-2 c table same = sym (late-end _ _ (c .before .loop .j) (c .loop-test .left) (c .before .loop .inv .1) table same)
 

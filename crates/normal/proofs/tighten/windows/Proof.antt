@@ -1,6 +1,6 @@
 -- `normal::tighten::windows` meets its contract. The loop's invariant: the windows of the jobs before j are filled in. Assumes nothing.
 use Prim.Native.Nat.{_≤_, _-_}
-use mathlib.Core.Path.{_≡_, _∙_}
+use mathlib.Core.Path.{_≡_}
 use mathlib.Core.List.{List}
 use native.Mathlib.Omega.{arith}
 use borrow.Author.Needs.{needs}
@@ -8,7 +8,7 @@ use lib.ListN.{length}
 use Rattle.laws.proofs.Filling.{Filled, filled-more, filled-all}
 use Rattle.records.specs.declared.JobRecord.{JobRecord}
 use Rattle.normal.specs.Windows.{earliestOf, latestOf, windows}
-use Rattle.normal.specs.Arrays.{ceiling, Holds}
+use Rattle.normal.specs.Arrays.{Holds}
 use Rattle.normal.proofs.Held.{earliest-fits}
 use Rattle.normal.proofs.tighten.windows.Statement.{statement}
 use Rattle.normal.proofs.tighten.windows.Tie as tie
@@ -23,53 +23,41 @@ Inv-loop jobs square earliest₀ latest₀ j₀ earliest latest j = (j ≤ 48) �
 abbrev μ-loop : tie.MeasureT-loop
 μ-loop jobs square earliest₀ latest₀ j₀ earliest latest j = 48 - j
 
--- src/tighten.rt:127:5
 loop-holds : tie.Need-loop-holds Inv-loop μ-loop
 loop-holds c = search needs
 
--- src/tighten.rt:128:23
 earliest-of-requires : tie.Need-earliest-of-requires Inv-loop μ-loop
 earliest-of-requires c κs = search needs
 
--- src/tighten.rt:128:23
 cast-earliest : tie.Need-cast-earliest Inv-loop μ-loop
 cast-earliest c =
     let held = c .before .before .before .before .pre .1 in
     omega (arith, earliest-fits held (c .before .before .before .loop .j) (c .before .before .loop-test .taken), c .earliest-of .ensures .1 _ (held .jobs-held))
 
--- src/tighten.rt:128:9
 mul-earliest : tie.Need-mul-earliest Inv-loop μ-loop
 mul-earliest c = search needs
 
--- src/tighten.rt:128:9
 array-write-earliest : tie.Need-array-write-earliest Inv-loop μ-loop
 array-write-earliest c = search needs
 
--- src/tighten.rt:129:21
 latest-of-requires : tie.Need-latest-of-requires Inv-loop μ-loop
 latest-of-requires c κs = search needs
 
--- src/tighten.rt:129:21
 cast-latest : tie.Need-cast-latest Inv-loop μ-loop
 cast-latest c = search needs
 
--- src/tighten.rt:129:9
 mul-latest : tie.Need-mul-latest Inv-loop μ-loop
 mul-latest c = search needs
 
--- src/tighten.rt:129:9
 array-write-latest : tie.Need-array-write-latest Inv-loop μ-loop
 array-write-latest c = search needs
 
--- src/tighten.rt:130:9
 add-j : tie.Need-add-j Inv-loop μ-loop
 add-j c = search needs
 
--- src/tighten.rt:127:5
 loop-less : tie.Need-loop-less Inv-loop μ-loop
 loop-less c = search needs
 
--- src/tighten.rt:127:5
 loop-again : tie.Need-loop-again Inv-loop μ-loop
 loop-again c =
     let l = c .before .before .before .before .before .loop in (
@@ -82,7 +70,6 @@ loop-again c =
       ),
     )
 
--- src/tighten.rt:120:1
 returns : tie.Need-returns Inv-loop μ-loop
 unfolding windows
 returns c table held =

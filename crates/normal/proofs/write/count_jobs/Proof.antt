@@ -18,27 +18,21 @@ Inv-loop jobs count₀ n₀ count n = (n ≤ 48) × (count ≤ n) × (count + le
 abbrev μ-loop : tie.MeasureT-loop
 μ-loop jobs count₀ n₀ count n = 48 - n
 
--- src/write.rt:25:5
 loop-holds : tie.Need-loop-holds Inv-loop μ-loop
 loop-holds c = omega (arith, ap length (present-first (c .args .t1)))
 
--- src/write.rt:26:12
 element-copy-out-if1 : tie.Need-element-copy-out-if1 Inv-loop μ-loop
 element-copy-out-if1 c = search needs
 
--- src/write.rt:27:13
 add-count : tie.Need-add-count Inv-loop μ-loop
 add-count c = search needs
 
--- src/write.rt:29:9
 add-n : tie.Need-add-n Inv-loop μ-loop
 add-n c = search needs
 
--- src/write.rt:25:5
 loop-less : tie.Need-loop-less Inv-loop μ-loop
 loop-less c = search needs
 
--- src/write.rt:25:5
 loop-again : tie.Need-loop-again Inv-loop μ-loop
 loop-again c =
     let a = c .before .before .before .before .args in
@@ -48,7 +42,6 @@ loop-again c =
     (λ w. omega (arith, ap length (present-left (a .t1) (l .n) (c .before .before .loop-test .taken) (w .0 .left))))
     (c .if1 .came)
 
--- src/write.rt:20:1
 returns : tie.Need-returns Inv-loop μ-loop
 returns c = omega (arith, ap length (present-end (c .before .before .args .t1) (c .before .loop .n) (c .loop-test .left)))
 

@@ -1,6 +1,6 @@
 -- `normal::write::count_links` meets its contract. The loop's invariant: the links counted and those from the jobs from i on are all. Assumes nothing.
 use Prim.Native.Nat.{_+_, _*_, _≤_, _-_}
-use mathlib.Core.Path.{_≡_, ap, _∙_}
+use mathlib.Core.Path.{_≡_, ap}
 use native.Mathlib.Omega.{arith}
 use borrow.Author.Needs.{needs}
 use lib.ListN.{length, length-append}
@@ -18,34 +18,27 @@ Inv-loop links count₀ i₀ count i = (i ≤ 48) × (count ≤ 48 * i) × (coun
 abbrev μ-loop : tie.MeasureT-loop
 μ-loop links count₀ i₀ count i = 48 - i
 
--- src/write.rt:56:5
 loop-holds : tie.Need-loop-holds Inv-loop μ-loop
 loop-holds c = omega (arith, ap length (links-first (c .args .t1)))
 
--- src/write.rt:57:18
 count-row-requires : tie.Need-count-row-requires Inv-loop μ-loop
 count-row-requires c κs = search needs
 
--- src/write.rt:57:9
 add-count : tie.Need-add-count Inv-loop μ-loop
 add-count c = search needs
 
--- src/write.rt:58:9
 add-i : tie.Need-add-i Inv-loop μ-loop
 add-i c = search needs
 
--- src/write.rt:56:5
 loop-less : tie.Need-loop-less Inv-loop μ-loop
 loop-less c = search needs
 
--- src/write.rt:56:5
 loop-again : tie.Need-loop-again Inv-loop μ-loop
 loop-again c =
     let links = c .before .before .before .before .args .t1 in
     let i = c .before .before .before .loop .i in
     omega (arith, ap length (links-more links i (c .before .before .loop-test .taken)), length-append (rowLinks links i) (linksFrom links (i + 1)))
 
--- src/write.rt:51:1
 returns : tie.Need-returns Inv-loop μ-loop
 returns c = omega (arith, ap length (links-end (c .before .before .args .t1) (c .before .loop .i) (c .loop-test .left)))
 

@@ -18,39 +18,30 @@ Inv-loop links i count₀ j₀ count j = (j ≤ 48) × (count ≤ j) × (count +
 abbrev μ-loop : tie.MeasureT-loop
 μ-loop links i count₀ j₀ count j = 48 - j
 
--- src/write.rt:41:5
 loop-holds : tie.Need-loop-holds Inv-loop μ-loop
 loop-holds c = omega (arith, ap length (row-first (c .args .links .now) (c .args .i)))
 
--- src/write.rt:42:12
 mul-if1 : tie.Need-mul-if1 Inv-loop μ-loop
 mul-if1 c = search needs
 
--- src/write.rt:42:12
 mul-if1-2 : tie.Need-mul-if1-2 Inv-loop μ-loop
 mul-if1-2 c = search needs
 
--- src/write.rt:42:12
 index-1-if1 : tie.Need-index-1-if1 Inv-loop μ-loop
 index-1-if1 c = search needs
 
--- src/write.rt:42:12
 index-2-if1 : tie.Need-index-2-if1 Inv-loop μ-loop
 index-2-if1 c = search needs
 
--- src/write.rt:43:13
 add-count : tie.Need-add-count Inv-loop μ-loop
 add-count c = search needs
 
--- src/write.rt:45:9
 add-j : tie.Need-add-j Inv-loop μ-loop
 add-j c = search needs
 
--- src/write.rt:41:5
 loop-less : tie.Need-loop-less Inv-loop μ-loop
 loop-less c = search needs
 
--- src/write.rt:41:5
 loop-again : tie.Need-loop-again Inv-loop μ-loop
 loop-again c =
     let a = c .before .before .before .before .args in
@@ -60,7 +51,6 @@ loop-again c =
     (λ w. omega (arith, ap length (row-left (a .links .now) (a .i) (l .j) (c .before .before .loop-test .taken) (w .0 .left))))
     (c .if1 .came)
 
--- src/write.rt:35:1
 returns : tie.Need-returns Inv-loop μ-loop
 returns c = omega (arith, ap length (row-end (c .before .before .args .links .now) (c .before .before .args .i) (c .before .loop .j) (c .loop-test .left)))
 

@@ -1,8 +1,7 @@
 -- `normal::write::write_jobs` meets its contract. The loop's invariant: the jobs from n on are left to be written. Assumes nothing.
 use Prim.Native.Nat.{_≤_, _-_}
-use mathlib.Core.Path.{_≡_, ap, _∙_}
+use mathlib.Core.Path.{_∙_}
 use mathlib.Core.Logic.{⊎-elim}
-use native.Mathlib.Omega.{arith}
 use borrow.Author.Needs.{needs}
 use Rattle.normal.specs.Chosen.{jobIn}
 use Rattle.normal.proofs.WriteLoops.{JobsLeft, jobs-left-first, jobs-left-room, jobs-left-present, jobs-left-absent, jobs-left-end}
@@ -18,63 +17,48 @@ Inv-loop out₀ jobs windows place₀ n₀ out place n = (n ≤ 48) × JobsLeft 
 abbrev μ-loop : tie.MeasureT-loop
 μ-loop out₀ jobs windows place₀ n₀ out place n = 48 - n
 
--- src/write.rt:70:5
 loop-holds : tie.Need-loop-holds Inv-loop μ-loop
 loop-holds c = (search needs, jobs-left-first _ _ _ (c .before .pre .1))
 
--- src/write.rt:71:12
 element-copy-out-if1 : tie.Need-element-copy-out-if1 Inv-loop μ-loop
 element-copy-out-if1 c = search needs
 
--- src/write.rt:72:24
 mul-cost : tie.Need-mul-cost Inv-loop μ-loop
 mul-cost c = search needs
 
--- src/write.rt:72:24
 element-copy-out-cost : tie.Need-element-copy-out-cost Inv-loop μ-loop
 element-copy-out-cost c = search needs
 
--- src/write.rt:73:27
 mul-release : tie.Need-mul-release Inv-loop μ-loop
 mul-release c = search needs
 
--- src/write.rt:73:27
 element-copy-out-release : tie.Need-element-copy-out-release Inv-loop μ-loop
 element-copy-out-release c = search needs
 
--- src/write.rt:74:28
 mul-deadline : tie.Need-mul-deadline Inv-loop μ-loop
 mul-deadline c = search needs
 
--- src/write.rt:74:28
 element-copy-out-deadline : tie.Need-element-copy-out-deadline Inv-loop μ-loop
 element-copy-out-deadline c = search needs
 
--- src/write.rt:74:28
 add-deadline : tie.Need-add-deadline Inv-loop μ-loop
 add-deadline c = record { fits = c .before .before .before .before .before .before .before .before .pre .0 (c .before .before .before .before .before .before .loop .n) (c .before .before .before .before .before .loop-test .taken) }
 
--- src/write.rt:79:29
 cast-t26 : tie.Need-cast-t26 Inv-loop μ-loop
 cast-t26 c = search needs
 
--- src/write.rt:75:13
 write-job-requires : tie.Need-write-job-requires Inv-loop μ-loop
 write-job-requires c κs = jobs-left-room _ _ _ _ _ _ (c .before .before .before .before .before .before .loop-test .taken) (c .before .before .before .before .before .before .before .loop .inv .1) (c .before .before .before .before .if1 .taken)
 
--- src/write.rt:85:13
 add-place : tie.Need-add-place Inv-loop μ-loop
 add-place c = search needs
 
--- src/write.rt:87:9
 add-n : tie.Need-add-n Inv-loop μ-loop
 add-n c = search needs
 
--- src/write.rt:70:5
 loop-less : tie.Need-loop-less Inv-loop μ-loop
 loop-less c = search needs
 
--- src/write.rt:70:5
 loop-again : tie.Need-loop-again Inv-loop μ-loop
 unfolding jobIn
 loop-again c =
@@ -85,11 +69,9 @@ loop-again c =
     (λ w. (search needs, rw (w .1, w .2) (jobs-left-absent (a .t2) (a .t3) (a .out .now) (l .n) (l .out) (l .place) (c .before .before .loop-test .taken) (l .inv .1) (w .0 .left))))
     (c .if1 .came)
 
--- src/write.rt:64:1
 same-length : tie.Need-same-length Inv-loop μ-loop
 same-length c = search needs
 
--- src/write.rt:64:1
 returns : tie.Need-returns Inv-loop μ-loop
 returns c = jobs-left-end _ _ _ (c .before .loop .n) _ _ (c .loop-test .left) (c .before .loop .inv .1)
 

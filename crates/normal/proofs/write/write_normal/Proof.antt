@@ -21,39 +21,30 @@ use Rattle.normal.proofs.write.count_jobs.Reads as count-jobs-reads
 use Rattle.normal.proofs.write.write_jobs.Reads as write-jobs-reads
 use Rattle.normal.proofs.write.write_links.Reads as write-links-reads
 
--- src/write.rt:142:23
 count-jobs-requires : tie.Need-count-jobs-requires
 count-jobs-requires c κs = search needs
 
--- src/write.rt:142:18
 mul-middle : tie.Need-mul-middle
 mul-middle c = search needs
 
--- src/write.rt:143:5
 write-jobs-requires : tie.Need-write-jobs-requires
 write-jobs-requires c κs = search needs
 
--- src/write.rt:144:17
 sub-write-links : tie.Need-sub-write-links
 sub-write-links c = search needs
 
--- src/write.rt:144:17
 part-write-links-start : tie.Need-part-write-links-start
 part-write-links-start c = search needs
 
--- src/write.rt:144:17
 part-write-links-end : tie.Need-part-write-links-end
 part-write-links-end c = search needs
 
--- src/write.rt:144:5
 write-links-requires : tie.Need-write-links-requires
 write-links-requires c κs = search needs
 
--- src/write.rt:133:1
 same-length : tie.Need-same-length
 same-length c = search needs
 
--- src/write.rt:133:1
 returns : tie.Need-returns
 unfolding encode
 returns c =

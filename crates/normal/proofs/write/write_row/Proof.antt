@@ -1,8 +1,7 @@
 -- `normal::write::write_row` meets its contract. The loop's invariant: the links to the jobs from j on are left to be written. Assumes nothing.
 use Prim.Native.Nat.{_≤_, _-_}
-use mathlib.Core.Path.{_≡_, ap, _∙_}
+use mathlib.Core.Path.{_∙_}
 use mathlib.Core.Logic.{⊎-elim}
-use native.Mathlib.Omega.{arith}
 use borrow.Author.Needs.{needs}
 use Rattle.normal.proofs.WriteLoops.{RowLeft, row-left-first, row-left-room, row-left-link, row-left-none, row-left-place, row-left-end}
 use Rattle.normal.proofs.write.write_row.Statement.{statement}
@@ -17,55 +16,42 @@ Inv-loop out₀ first links i place₀ j₀ out place j = (j ≤ 48) × RowLeft 
 abbrev μ-loop : tie.MeasureT-loop
 μ-loop out₀ first links i place₀ j₀ out place j = 48 - j
 
--- src/write.rt:99:5
 loop-holds : tie.Need-loop-holds Inv-loop μ-loop
 loop-holds c = (search needs, row-left-first _ _ _ _ (c .before .pre .1))
 
--- src/write.rt:100:20
 mul-cell : tie.Need-mul-cell Inv-loop μ-loop
 mul-cell c = search needs
 
--- src/write.rt:100:20
 mul-cell-2 : tie.Need-mul-cell-2 Inv-loop μ-loop
 mul-cell-2 c = search needs
 
--- src/write.rt:100:20
 index-1-cell : tie.Need-index-1-cell Inv-loop μ-loop
 index-1-cell c = search needs
 
--- src/write.rt:100:20
 index-2-cell : tie.Need-index-2-cell Inv-loop μ-loop
 index-2-cell c = search needs
 
--- src/write.rt:102:27
 sub-latency : tie.Need-sub-latency Inv-loop μ-loop
 sub-latency c = search needs
 
--- src/write.rt:107:27
 cast-t20 : tie.Need-cast-t20 Inv-loop μ-loop
 cast-t20 c = search needs
 
--- src/write.rt:108:25
 cast-t21 : tie.Need-cast-t21 Inv-loop μ-loop
 cast-t21 c = search needs
 
--- src/write.rt:103:13
 write-link-requires : tie.Need-write-link-requires Inv-loop μ-loop
 write-link-requires c κs = row-left-room _ _ _ _ _ _ _ (c .before .before .before .loop-test .taken) (c .before .before .before .before .loop .inv .1) (c .before .if1 .taken)
 
--- src/write.rt:112:13
 add-place : tie.Need-add-place Inv-loop μ-loop
 add-place c = search needs
 
--- src/write.rt:114:9
 add-j : tie.Need-add-j Inv-loop μ-loop
 add-j c = search needs
 
--- src/write.rt:99:5
 loop-less : tie.Need-loop-less Inv-loop μ-loop
 loop-less c = search needs
 
--- src/write.rt:99:5
 loop-again : tie.Need-loop-again Inv-loop μ-loop
 loop-again c =
     let a = c .before .before .before .before .before .args in
@@ -75,11 +61,9 @@ loop-again c =
     (λ w. (search needs, rw (w .1, w .2) (row-left-none (a .links .now) (a .out .now) (a .i) (a .first) (l .j) (l .out) (l .place) (c .before .before .loop-test .taken) (l .inv .1) (w .0 .left))))
     (c .if1 .came)
 
--- src/write.rt:92:1
 same-length : tie.Need-same-length Inv-loop μ-loop
 same-length c = search needs
 
--- src/write.rt:92:1
 returns : tie.Need-returns Inv-loop μ-loop
 returns c =
     let l = c .before .loop in
