@@ -5,3 +5,4 @@ pub mod Printing
 pub mod Refusals
 pub mod Expanding
 pub mod Normalising
+pub mod Scheduling

@@ -2,6 +2,7 @@
 
 pub mod expand;
 pub mod normalise;
+pub mod schedule;
 
 // What expanding and normalising answer: 01's number, and how many bytes of the output were written.
 #[repr(C)]
