@@ -4,3 +4,4 @@ pub mod BadTools
 pub mod Printing
 pub mod Refusals
 pub mod Expanding
+pub mod Expanded
