@@ -6,3 +6,4 @@ pub mod Refusals
 pub mod Expanding
 pub mod Normalising
 pub mod Scheduling
+pub mod Expanded
