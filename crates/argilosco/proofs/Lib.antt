@@ -3,4 +3,6 @@ pub mod Unique
 pub mod BadTools
 pub mod Printing
 pub mod Refusals
+pub mod Expanding
 pub mod Normalising
+pub mod Scheduling

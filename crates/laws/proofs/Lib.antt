@@ -11,4 +11,8 @@ pub mod Filling
 pub mod InPlace
 pub mod Scanning
 pub mod Walking
+pub mod Gathering
+pub mod Sizes
 pub mod Storing
+pub mod Keeping
+pub mod Pieces

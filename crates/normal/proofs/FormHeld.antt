@@ -46,7 +46,7 @@ flat-empty f [] h = refl
 flat-empty f (x ∷ xs) h = ap₂ _++_ (h x (List·Memᴰ·head refl)) (flat-empty f xs (λ y m. h y (List·Memᴰ·tail m)))
 
 -- a number of the row from 0 on is below its end
-below-48 : (n : ℕ) → List·Memᴰ n (count 0 48) → n < 48
+pub below-48 : (n : ℕ) → List·Memᴰ n (count 0 48) → n < 48
 below-48 n m = count-member 0 48 n .0 m .1
 
 -- the link that a chosen cell holds is the pair's
@@ -64,7 +64,7 @@ unfolding pairLink
 pair-none table w i j gap e = rw e
 
 -- the last start of a number of no job is 0
-no-last : (table : List JobRecord) (n : ℕ) → any (isJob n) table ≡ false → lastStart table n ≡ 0
+pub no-last : (table : List JobRecord) (n : ℕ) → any (isJob n) table ≡ false → lastStart table n ≡ 0
 unfolding lastStart
 no-last table n e = omega (arith, no-value (λ j. j .deadline) table n e)
 

@@ -25,3 +25,4 @@ pub mod RecordsFrom
 pub mod WriteLoops
 pub mod FormHeld
 pub mod Answers
+pub mod FormGiven

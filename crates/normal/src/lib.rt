@@ -1,6 +1,7 @@
 // The normal form of a job table: gaps, rings, windows, and the records that are written.
 
 pub mod choose;
+pub mod form;
 pub mod gaps;
 pub mod tighten;
 pub mod write;

@@ -7,6 +7,7 @@ pub mod Writing
 pub mod WritingLoop
 pub mod Overwriting
 pub mod Reading
+pub mod Finding
 pub mod Computes
 pub mod ReaderContracts
 pub mod TakenApart

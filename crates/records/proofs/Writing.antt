@@ -1,13 +1,13 @@
 -- Records written one behind the other, for any kind of table: writing some from a place on, and then others behind them, writes all of them from that place on.
 -- A record takes twelve bytes, so that the places of the records are those of their bytes, and two pastes that adjoin are one.
-use Prim.Native.Nat.{ℕ, _+_, _*_, _≤_}
+use Prim.Native.Nat.{ℕ, _+_, _-_, _*_, _≤_}
 use native.Mathlib.Nat.{mul-add, zero-add}
 use native.Mathlib.Omega.{arith}
 use mathlib.Core.Path.{_≡_, refl, sym, ap, _∙_}
-use mathlib.Core.List.{List, [], _∷_, _++_, append-nil}
+use mathlib.Core.List.{List, [], _∷_, _++_, append-nil, append-assoc}
 use mathlib.Core.Option.{Option}
-use lib.ListN.{length, take, drop, length-append}
-use lib.Seq.{paste, paste-zero, length-paste, take-length}
+use lib.ListN.{length, take, drop, length-append, length-drop, drop-of-length-le}
+use lib.Seq.{paste, paste-zero, length-paste, take-length, take-all, take-at, drop-at, drop-drop}
 use Rattle.laws.proofs.Adjoining.{paste-join, flat-append}
 use Rattle.records.specs.Table.{encode}
 use Rattle.records.specs.Outcome.{overwrite}
@@ -57,3 +57,15 @@ module _ {A : Type 0} {read : (ℕ → ℕ) → Option A} {write : A → List �
   -- records from the first place on are the output's first bytes
   pub written-first : (out : List ℕ) (rs : List A) → written write out 0 rs ≡ overwrite (encode write rs) out
   written-first out rs = rw (← length-encode laws rs, take-length (encode write rs), zero-add (length (encode write rs)))
+
+-- an output of which the rest from m on was lent: bytes written first, as many as m, and others written into the rest, are both the output's first bytes
+pub overwrite-rest : (out first second : List ℕ) (m k : ℕ) {now part : List ℕ} → now ≡ overwrite first out → length first ≡ m → k ≡ length now - m → part ≡ overwrite second (take k (drop m now))
+    → take m now ++ (part ++ drop k (drop m now)) ≡ overwrite (first ++ second) out
+overwrite-rest out first second m k {now} {part} wrote size long wrote-rest =
+    let before : take m now ≡ first = ap (take m) wrote ∙ take-at first (drop (length first) out) m size in
+    let after : drop m now ≡ drop (length first) out = ap (drop m) wrote ∙ drop-at first (drop (length first) out) m size in
+    let lent : take k (drop m now) ≡ drop m now = take-all k (drop m now) (omega (arith, length-drop m now)) in
+    let none-left : drop k (drop m now) ≡ [] = drop-of-length-le (drop m now) {i = k} (omega (arith, length-drop m now)) in
+    let rest : part ≡ second ++ drop (length (first ++ second)) out =
+    wrote-rest ∙ ap (overwrite second) (lent ∙ after) ∙ ap (λ r. second ++ r) (drop-drop (length second) (length first) out ∙ ap (λ n. drop n out) (sym (length-append first second))) in
+    rw (before, none-left, append-nil part, rest) (sym (append-assoc first second (drop (length (first ++ second)) out)))

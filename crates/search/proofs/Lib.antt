@@ -1,6 +1,10 @@
 -- What is proved of the search.
 pub mod Computes
 pub mod Cases
+pub mod FitLaws
+pub mod SlotLaws
+pub mod TreeLaws
+pub mod MarkLaws
 pub mod Meanings
 pub mod Words
 pub mod Rest
@@ -13,3 +17,10 @@ pub mod Counts
 pub mod NormalFeasible
 pub mod Given
 pub mod Demands
+pub mod ByNumber
+pub mod States
+pub mod Links
+pub mod Candidates
+pub mod StateSlots
+pub mod Searching
+pub mod DoorLaws
