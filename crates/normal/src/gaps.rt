@@ -120,12 +120,12 @@ pub fn gaps(jobs: Jobs, links: [[u16; 48]; 48]) -> [[u32; 48]; 48]
 pub fn ring_in(square: [[u32; 48]; 48]) -> bool
     ensures { λ r. ⌜ r ≡ gaps.ringIn square ⌝ }
 {
-    let mut i: usize = 0;
-    while i < 48 {
-        if square[i][i] != 0 {
+    let mut n: usize = 0;
+    while n < 48 {
+        if square[n][n] != 0 {
             return true;
         }
-        i += 1;
+        n += 1;
     }
     false
 }

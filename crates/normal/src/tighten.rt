@@ -91,9 +91,9 @@ fn earlier(latest: u32, time: u32, gap: u32) -> u32
     if gap == 0 {
         return latest;
     }
-    let start = time - gap;
-    if start < latest {
-        return start;
+    let bound = time - gap;
+    if bound < latest {
+        return bound;
     }
     latest
 }

@@ -1,4 +1,4 @@
--- `normal::gaps::ring_in` meets its contract. The loop's invariant: a ring shows exactly when one shows from job i on. Assumes nothing.
+-- `normal::gaps::ring_in` meets its contract. The loop's invariant: a ring shows exactly when one shows from job n on. Assumes nothing.
 use Prim.Native.Nat.{_≤_, _-_}
 use mathlib.Core.Path.{_≡_, refl, sym, ap, _∙_}
 use mathlib.Core.Bool.{not}
@@ -15,10 +15,10 @@ use Rattle.normal.proofs.gaps.ring_in.Reads as reads
 use Rattle.normal.proofs.gaps.ring_in.Lts as lts
 
 abbrev Inv-loop : tie.InvT-loop
-Inv-loop square i₀ i = (i ≤ 48) × (ringIn square ≡ any (λ k. not (eqb (cell square k k) 0)) (count i (48 - i)))
+Inv-loop square n₀ n = (n ≤ 48) × (ringIn square ≡ any (λ k. not (eqb (cell square k k) 0)) (count n (48 - n)))
 
 abbrev μ-loop : tie.MeasureT-loop
-μ-loop square i₀ i = 48 - i
+μ-loop square n₀ n = 48 - n
 
 loop-holds : tie.Need-loop-holds Inv-loop μ-loop
 unfolding ringIn
@@ -39,8 +39,8 @@ index-2-if1 c = search needs
 returns : tie.Need-returns Inv-loop μ-loop
 returns c = sym (c .before .before .before .loop .inv .1 ∙ any-taken _ _ 48 (c .before .before .loop-test .taken) (ap not (ne-eqb _ _ (c .if1 .taken))))
 
-add-i : tie.Need-add-i Inv-loop μ-loop
-add-i c = search needs
+add-n : tie.Need-add-n Inv-loop μ-loop
+add-n c = search needs
 
 loop-less : tie.Need-loop-less Inv-loop μ-loop
 loop-less c = search needs
@@ -63,7 +63,7 @@ ring-in-spec =
     index-1-if1
     index-2-if1
     returns
-    add-i
+    add-n
     loop-less
     loop-again
     returns-2)

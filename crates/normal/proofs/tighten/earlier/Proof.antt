@@ -10,8 +10,8 @@ use Rattle.normal.proofs.tighten.earlier.Lts as lts
 returns : tie.Need-returns
 returns c = rw (c .if1 .taken) (omega arith)
 
-sub-start : tie.Need-sub-start
-sub-start c = search needs
+sub-bound : tie.Need-sub-bound
+sub-bound c = search needs
 
 returns-2 : tie.Need-returns-2
 returns-2 c = omega (arith, before-gap (c .before .before .args .latest) (c .before .before .args .time) (c .before .before .args .gap) (omega arith))
@@ -20,4 +20,4 @@ returns-3 : tie.Need-returns-3
 returns-3 c = omega (arith, before-gap (c .before .before .args .latest) (c .before .before .args .time) (c .before .before .args .gap) (omega arith))
 
 pub earlier-spec : {M : Type 1} → statement M
-earlier-spec = tie.close (tie.spec returns sub-start returns-2 returns-3)
+earlier-spec = tie.close (tie.spec returns sub-bound returns-2 returns-3)
