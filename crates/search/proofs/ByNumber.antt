@@ -2,10 +2,10 @@
 -- Lists of numbers that both rise are compared by which numbers they hold.
 use Prim.Native.Nat.{ℕ, _+_, _≤_, _<_}
 use native.Mathlib.Omega.{arith}
-use mathlib.Core.Path.{_≡_, refl, sym, ap, _∙_}
+use mathlib.Core.Path.{_≡_, ap, _∙_}
 use mathlib.Core.Bool.{Bool, true, false}
 use mathlib.Core.Logic.{_↔_}
-use mathlib.Core.List.{List, [], _∷_, map, List·Memᴰ, Memᴰ·map, Memᴰ·of-map}
+use mathlib.Core.List.{List, [], map, List·Memᴰ, Memᴰ·map, Memᴰ·of-map}
 use lib.ListN.{length, getD}
 use Rattle.laws.specs.Lists.{any, keep, count, largest}
 use Rattle.laws.proofs.Members.{count-member, keep-member, keep-length, keep-same, keep-rising, count-rising, largest-bounds, largest-least, Rising}

@@ -1,10 +1,10 @@
 -- What each return of `search` shows, of any table whose jobs and links the code was handed.
 use Prim.Native.Nat.{ℕ}
-use mathlib.Core.Path.{_≡_, refl, sym, ap, _∙_}
+use mathlib.Core.Path.{_≡_, refl, sym, _∙_}
 use mathlib.Core.Bool.{Bool, true, false, not}
 use mathlib.Core.List.{List, [], map}
 use lib.ListN.{length, replicate}
-use Rattle.records.specs.Outcome.{Outcome, refused}
+use Rattle.records.specs.Outcome.{refused}
 use Rattle.records.specs.declared.JobRecord.{JobRecord}
 use Rattle.jobs.specs.Judge.{Sound}
 use Rattle.jobs.specs.Arrays.{jobsOf}
@@ -15,7 +15,7 @@ use Rattle.search.specs.Live.{live}
 use Rattle.search.specs.Call.{searched}
 use Rattle.search.specs.State.{restFits, given, numbersIn, limitOf, begun, linksInto, opened, walk, Answers}
 use Rattle.search.proofs.TreeLaws.{answers-same}
-use Rattle.search.proofs.ByNumber.{limit, numbers-in}
+use Rattle.search.proofs.ByNumber.{numbers-in}
 use Rattle.search.proofs.States.{stateOf}
 use Rattle.search.proofs.Candidates.{live-begun}
 use Rattle.search.proofs.Searching.{held, search-live, search-dead}

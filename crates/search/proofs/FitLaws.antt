@@ -1,17 +1,16 @@
 -- Laws of the test for live, as loops over the job numbers compute it: what each turn of a loop and each return shows.
 -- A loop that has come to number m keeps what it has found of the numbers below m; what it is still to find speaks of the numbers from m on.
-use Prim.Native.Nat.{ℕ, zero, suc, _+_, _-_, _≤_, _<_, max}
+use Prim.Native.Nat.{ℕ, _+_, _-_, _≤_, _<_, max}
 use native.Mathlib.Omega.{arith}
-use mathlib.Core.Path.{_≡_, refl, sym, ap, _∙_}
-use mathlib.Core.Bool.{Bool, true, false, cond, not, _&&_, _||_}
-use mathlib.Core.List.{List, [], _∷_, map}
-use lib.Dec.{leb, ltb, eqb}
+use mathlib.Core.Path.{_≡_, sym, ap, _∙_}
+use mathlib.Core.Bool.{Bool, true, false, cond, not, _&&_}
+use mathlib.Core.List.{List, _∷_, map}
+use lib.Dec.{leb, ltb}
 use borrow.Author.Tests.{eq-eqb, ne-eqb, le-ltb, lt-ltb, le-leb, lt-leb}
 use Rattle.laws.specs.Lists.{all, largest, total}
 use Rattle.laws.proofs.Keeping.{keepFrom, keep-start, keep-end, keep-skip, keep-take}
 use Rattle.search.specs.declared.fit.Start.{Start}
 use Rattle.search.specs.declared.fit.Start.the-variants.{At, NotYet}
-use Rattle.search.specs.declared.fit.Next.{Next}
 use Rattle.search.specs.declared.fit.Next.the-variants.{Ends, Not}
 use Rattle.search.specs.State.{at, isPlaced, linked, startAt, StartBelow, remainsAfter, left, fitsAfter, togetherAfter, restFits, endsAt, opensAt}
 

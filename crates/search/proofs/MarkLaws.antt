@@ -2,9 +2,9 @@
 -- A loop that has come to number k keeps what it has found of the numbers below k; what it is still to find speaks of the numbers from k on.
 use Prim.Native.Nat.{ℕ, _+_, _≤_, _<_, max}
 use native.Mathlib.Omega.{arith}
-use mathlib.Core.Path.{_≡_, refl, ap, _∙_}
+use mathlib.Core.Path.{_≡_, ap}
 use mathlib.Core.Bool.{Bool, true, false}
-use mathlib.Core.List.{List, [], _∷_, map}
+use mathlib.Core.List.{List, map}
 use lib.ListN.{length, getD}
 use Rattle.laws.specs.Lists.{largest}
 use Rattle.laws.proofs.Keeping.{keepFrom, keep-start, keep-end, keep-skip, keep-take}
