@@ -1,4 +1,7 @@
-// The public calls, exported for C and Rust. So far: what they answer, and what they promise.
+// The public calls, exported for C and Rust: what they answer, and what they promise.
+
+pub mod expand;
+pub mod normalise;
 
 // What expanding and normalising answer: 01's number, and how many bytes of the output were written.
 #[repr(C)]

@@ -27,26 +27,31 @@ pub record Case : Type 0 where
   pub room : ℕ
   pub outcome : Outcome
 
--- records as 01 writes them: a pass with its cost, period, phase and finish; a job with its cost and window
+-- a pass as 01 writes it, with its cost, period, phase and finish
 abbrev pub p : ℕ → ℕ → ℕ → ℕ → ℕ → PassRecord
 p n c period phase within = P (pass n c period phase within)
 
+-- a flow with its latency
 abbrev pub f : ℕ → ℕ → ℕ → PassRecord
 f source target latency = F (flow source target latency)
 
+-- a job with its cost and window
 abbrev pub j : ℕ → ℕ → ℕ → ℕ → JobRecord
 j n c release deadline = J (job n c release deadline)
 
+-- a link with its latency
 abbrev pub l : ℕ → ℕ → ℕ → JobRecord
 l from to latency = L (link from to latency)
 
+-- a slot from its start to its end
 abbrev pub s : ℕ → ℕ → ℕ → Slot
 s n start end = slot n start end
 
--- the bytes of a pass table and of a job table
+-- the bytes of a pass table
 abbrev pub passes : List PassRecord → List ℕ
 passes = encode passBytes
 
+-- the bytes of a job table
 abbrev pub jobs : List JobRecord → List ℕ
 jobs = encode jobBytes
 
@@ -54,12 +59,15 @@ jobs = encode jobBytes
 abbrev pub gives : Call → List ℕ → ℕ → List ℕ → Case
 gives call bytes opened output = record { call = call; bytes = bytes; room = length output; outcome = done opened output }
 
+-- a pass table is expanded to these records
 abbrev pub expands : List PassRecord → List JobRecord → Case
 expands table output = gives expanding (passes table) 0 (jobs output)
 
+-- a job table has this normal form
 abbrev pub normalises : List JobRecord → List JobRecord → Case
 normalises table output = gives normalising (jobs table) 0 (jobs output)
 
+-- a job table gets this schedule under a budget, with so many openings
 abbrev pub schedules : List JobRecord → ℕ → ℕ → List Slot → Case
 schedules table budget opened output = gives (scheduling budget) (jobs table) opened (encode slotBytes output)
 
@@ -94,22 +102,25 @@ passesBy comesTo c = sameOutcome (comesTo (c .call) (c .bytes) (c .room)) (c .ou
 unfoldable pub allPass : (Call → List ℕ → ℕ → Outcome) → List Case → Bool
 allPass comesTo = all (passesBy comesTo)
 
--- which call it is, and scheduling's budget
+-- the call is expanding
 abbrev pub isExpanding : Call → Bool
 isExpanding expanding = true
 isExpanding normalising = false
 isExpanding (scheduling budget) = false
 
+-- the call is normalising
 abbrev pub isNormalising : Call → Bool
 isNormalising expanding = false
 isNormalising normalising = true
 isNormalising (scheduling budget) = false
 
+-- the call is scheduling
 abbrev pub isScheduling : Call → Bool
 isScheduling expanding = false
 isScheduling normalising = false
 isScheduling (scheduling budget) = true
 
+-- scheduling's budget
 abbrev pub budgetOf : Call → ℕ
 budgetOf expanding = 0
 budgetOf normalising = 0

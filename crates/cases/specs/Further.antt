@@ -24,10 +24,11 @@ two a b = p 0 1 a 0 1 ∷ p 1 1 b 0 1 ∷ []
 abbrev pub fourJobs : List JobRecord → List JobRecord
 fourJobs links = j 0 1 0 100 ∷ j 1 1 0 100 ∷ j 2 1 0 100 ∷ j 3 1 0 100 ∷ links
 
--- two links 0 to 1 of latency 3 and 1, in both orders
+-- two links 0 to 1, of latency 3 and then 1
 abbrev pub strongFirst : List JobRecord
 strongFirst = fourJobs (l 0 1 3 ∷ l 0 1 1 ∷ [])
 
+-- of latency 1 and then 3
 abbrev pub strongLast : List JobRecord
 strongLast = fourJobs (l 0 1 1 ∷ l 0 1 3 ∷ [])
 

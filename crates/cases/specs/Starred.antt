@@ -4,34 +4,43 @@ use mathlib.Core.List.{List, [], _∷_}
 use Rattle.records.specs.declared.JobRecord.{JobRecord}
 use Rattle.cases.specs.Case.{Case, normalising, scheduling, expands, normalises, schedules, refuses, j, l, s, jobs}
 
--- the tables of the cases, by letter; B is "the table above", the example of the print program
+-- B: "the table above", the example of the print program
 abbrev pub exampleJobs : List JobRecord
 exampleJobs = j 0 300 0 1000 ∷ j 1 100 0 500 ∷ j 2 100 500 1000 ∷ l 0 1 50 ∷ []
 
+-- C, by its job's cost
 abbrev pub tableC : ℕ → List JobRecord
 tableC c = j 0 c 0 3 ∷ []
 
+-- D
 abbrev pub tableD : List JobRecord
 tableD = j 0 10 0 100 ∷ j 1 2 1 3 ∷ []
 
+-- E
 abbrev pub tableE : List JobRecord
 tableE = j 0 2 0 3 ∷ j 1 2 0 3 ∷ []
 
+-- F: "E with J 2 1 [10, 20]"
 abbrev pub tableF : List JobRecord
 tableF = j 0 2 0 3 ∷ j 1 2 0 3 ∷ j 2 1 10 20 ∷ []
 
+-- G, by its link's latency
 abbrev pub tableG : ℕ → List JobRecord
 tableG latency = j 0 1 0 10 ∷ j 1 1 0 4 ∷ l 0 1 latency ∷ []
 
+-- H, and the normal form of G at latency 2
 abbrev pub normalG : List JobRecord
 normalG = j 0 1 0 1 ∷ j 1 1 3 4 ∷ []
 
+-- I, with the links that are added
 abbrev pub tableI : List JobRecord → List JobRecord
 tableI added = j 0 1 0 100 ∷ j 1 1 0 100 ∷ j 2 1 0 100 ∷ l 0 1 0 ∷ l 1 2 0 ∷ added
 
+-- its normal form
 abbrev pub normalI : List JobRecord
 normalI = j 0 1 0 98 ∷ j 1 1 1 99 ∷ j 2 1 2 100 ∷ l 0 1 0 ∷ l 0 2 1 ∷ l 1 2 0 ∷ []
 
+-- J, by its links
 abbrev pub tableJ : List JobRecord → List JobRecord
 tableJ links = j 0 1 0 100 ∷ j 1 1 0 100 ∷ links
 

@@ -4,3 +4,7 @@ pub mod Cases
 pub mod Sound
 pub mod JobsFirst
 pub mod WellFormed
+pub mod Arrays
+pub mod Links
+pub mod Judging
+pub mod Records

@@ -73,7 +73,7 @@ pub job-any : {table : List JobRecord} {j : Job} → List·Memᴰ (J j) table �
 job-any {table} {j} m = member-any (isJob (j .number)) m (eq-eqb (j .number) (j .number) refl)
 
 -- where no record is at fault by 3, a J record's number is below 48 and that of no record before it
-fresh : (before table : List JobRecord) → Faultless badNumber before table → (j : Job) → List·Memᴰ (J j) table → (j .number < 48) × (any (isJob (j .number)) before ≡ false)
+pub fresh : (before table : List JobRecord) → Faultless badNumber before table → (j : Job) → List·Memᴰ (J j) table → (j .number < 48) × (any (isJob (j .number)) before ≡ false)
 fresh before [] h j m = absurd (List·Memᴰ·not-nil m)
 fresh before (r ∷ table) h j m = step (List·Memᴰ·cases-cons m) (fresh (r ∷ before) table (h .1) j)
   where

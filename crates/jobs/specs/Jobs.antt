@@ -20,12 +20,15 @@ ofJob value [] n = 0
 ofJob value (J j ∷ table) n = cond (eqb (j .number) n) (value j) (ofJob value table n)
 ofJob value (L l ∷ table) n = ofJob value table n
 
+-- the cost of the job with a number
 abbrev pub cost : List JobRecord → ℕ → ℕ
 cost = ofJob (λ j. j .cost)
 
+-- its release
 abbrev pub release : List JobRecord → ℕ → ℕ
 release = ofJob (λ j. j .release)
 
+-- its deadline
 abbrev pub deadline : List JobRecord → ℕ → ℕ
 deadline = ofJob (λ j. j .deadline)
 

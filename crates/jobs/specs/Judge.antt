@@ -29,13 +29,15 @@ abbrev pub looseLink : List JobRecord → JobRecord → Bool
 looseLink table (J j) = false
 looseLink table (L l) = eqb (l .from) (l .to) || not (any (isJob (l .from)) table) || not (any (isJob (l .to)) table)
 
--- the first record at fault by 3, by 4 and by 5
+-- 3: the first record at fault
 unfoldable pub fault3 : List JobRecord → Option ℕ
 fault3 = firstFault badNumber [] 0
 
+-- 4: the first record at fault
 unfoldable pub fault4 : List JobRecord → Option ℕ
 fault4 = firstFault (λ before r. badValue r) [] 0
 
+-- 5: the first record at fault
 unfoldable pub fault5 : List JobRecord → Option ℕ
 fault5 table = firstFault (λ before r. looseLink table r) [] 0 table
 

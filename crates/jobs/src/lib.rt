@@ -1,5 +1,8 @@
 // A job table: read and judged, its jobs in arrays by number, and a square of its strongest links.
 
+pub mod judge;
+pub mod load;
+
 // The jobs of a table by number: whether there is one, its cost and its window.
 pub struct Jobs {
     pub present: [bool; 48],

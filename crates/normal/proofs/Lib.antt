@@ -11,3 +11,17 @@ pub mod NormalSound
 pub mod NormalPermits
 pub mod Canonical
 pub mod CanonicalBytes
+pub mod Ceiling
+pub mod RoundLoop
+pub mod NumbersFrom
+pub mod GapsLoop
+pub mod EarliestLoop
+pub mod StartsLoop
+pub mod LatestLoop
+pub mod CeilingTells
+pub mod Held
+pub mod ChosenLaws
+pub mod RecordsFrom
+pub mod WriteLoops
+pub mod FormHeld
+pub mod Answers

@@ -34,7 +34,7 @@ module _ (n : ℕ) (f : Cells) where
   of-drawn P i j p q = of-row (λ row. P (getD row j 0)) (λ i. map (f i) (count 0 n)) n i [] p (of-row P (f i) n j 0 p q)
 
 -- a row keeps its length
-length-widened : (a : ℕ) (row through : List ℕ) → length (widened a row through) ≡ length row
+pub length-widened : (a : ℕ) (row through : List ℕ) → length (widened a row through) ≡ length row
 unfolding widened
 length-widened a [] through = refl
 length-widened a (c ∷ cs) [] = refl
@@ -46,7 +46,7 @@ length-through zero row through = refl
 length-through (suc a) row through = length-widened (suc a) row through
 
 -- a cell of a row after the round, if the row gone through is no longer than it
-widened-cell : (a : ℕ) (row through : List ℕ) (j : ℕ) → length through ≤ length row → getD (widened a row through) j 0 ≡ max (getD row j 0) (joined a (getD through j 0))
+pub widened-cell : (a : ℕ) (row through : List ℕ) (j : ℕ) → length through ≤ length row → getD (widened a row through) j 0 ≡ max (getD row j 0) (joined a (getD through j 0))
 unfolding widened
 widened-cell a [] [] j h = rw joined-zero
 widened-cell a [] (b ∷ bs) j h = absurd (omega arith)

@@ -20,7 +20,7 @@ use Rattle.normal.specs.Windows.{after, before, smallest, lastStart, lat
 use Rattle.normal.proofs.WindowsEarliest.{Normalisable, gapsRight, gap, earliest, latest, chain-grows, gap-chain, gap-joins, chain-to, link-gap, after-gap, after-least, release-earliest, earliest-grows, earliest-ends}
 
 -- the smallest of a number and a list is at most the number, and at most each of the list
-smallest-bounds : (n : ℕ) (xs : List ℕ) → (smallest n xs ≤ n) × ((x : ℕ) → List·Memᴰ x xs → smallest n xs ≤ x)
+pub smallest-bounds : (n : ℕ) (xs : List ℕ) → (smallest n xs ≤ n) × ((x : ℕ) → List·Memᴰ x xs → smallest n xs ≤ x)
 smallest-bounds n xs = (first xs, every-member (λ x. smallest n xs ≤ x) (others xs))
   where
     first : (xs : List ℕ) → smallest n xs ≤ n
@@ -38,7 +38,7 @@ smallest-greatest n bound (x ∷ xs) h each =
     omega (arith, each x (List·Memᴰ·head refl), smallest-greatest n bound xs h (λ y m. each y (List·Memᴰ·tail m)))
 
 -- a time and the gap before it, where there is one
-before-gap : (other time gap : ℕ) → 0 < gap → before other time gap ≡ time - gap
+pub before-gap : (other time gap : ℕ) → 0 < gap → before other time gap ≡ time - gap
 before-gap other time zero h = absurd (omega arith)
 before-gap other time (suc gap) h = refl
 
@@ -90,7 +90,7 @@ module _ {table : List JobRecord} (normalisable : Normalisable table) where
   earliest-last : (n : ℕ) → List·Memᴰ n (numbers table) → earliest table n ≤ lastStart table n
   earliest-last n m = omega (arith, earliest-ends normalisable n m, last-ends n m)
 
-  gap-last : (j k : ℕ) → List·Memᴰ k (numbers table) → 0 < gap table j k → earliest table j + gap table j k ≤ lastStart table k
+  pub gap-last : (j k : ℕ) → List·Memᴰ k (numbers table) → 0 < gap table j k → earliest table j + gap table j k ≤ lastStart table k
   gap-last j k m h = omega (arith, earliest-grows (normalisable .sound) (gapsRight normalisable) j k h, earliest-last k m)
 
   -- a job's earliest start is by its latest

@@ -12,7 +12,8 @@ use Rattle.records.specs.declared.JobRecord.{JobRecord}
 use Rattle.records.specs.declared.JobRecord.the-variants.{J, L}
 use Rattle.jobs.specs.Jobs.{numbers, cost, jobsInOrder}
 use Rattle.normal.specs.Gaps.{Square, cell, gaps}
-use Rattle.normal.specs.Windows.{Windows, windows}
+use Rattle.normal.specs.Windows.{windows}
+use Rattle.normal.specs.declared.Windows.{Windows}
 
 -- "cost as it was, release = earliest start, deadline = latest start + cost"
 unfoldable pub normalJob : Windows → Job → Job

@@ -7,6 +7,7 @@ use Rattle.laws.specs.Lists.{count, any, largest}
 use Rattle.records.specs.declared.JobRecord.{JobRecord}
 use Rattle.jobs.specs.Jobs.{numbers, cost, release, deadline, jobsInOrder}
 use Rattle.normal.specs.Gaps.{Square, cell}
+use Rattle.normal.specs.declared.Windows.{Windows}
 
 -- a time and the gap after it, and 0 where there is no chain
 abbrev pub after : ℕ → ℕ → ℕ
@@ -45,10 +46,6 @@ noStarts table square =
     any (λ j. ltb (j .deadline) (earliestOf table square (j .number) + j .cost)) (jobsInOrder table)
 
 -- the windows by job number: each job's earliest and its latest permitted start
-pub record Windows : Type 0 where
-  pub earliest : List ℕ
-  pub latest : List ℕ
-
 unfoldable pub windows : List JobRecord → Square → Windows
 windows table square = record {
   earliest = map (earliestOf table square) (count 0 48);

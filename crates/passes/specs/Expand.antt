@@ -46,11 +46,12 @@ multipleFrom a b m (suc n) = elim (eqb (m % b) 0) [ true ↦ m | false ↦ multi
 unfoldable pub lcm : ℕ → ℕ → ℕ
 lcm a b = multipleFrom a b a (b - 1)
 
--- "The cycle is the least common multiple of all periods; for no passes it is 1": that of `c` and all periods, at c = 1
+-- the least common multiple of `c` and the periods of the passes listed
 unfoldable pub cycleFrom : ℕ → List Pass → ℕ
 cycleFrom c [] = c
 cycleFrom c (p ∷ ps) = cycleFrom (lcm c (p .period)) ps
 
+-- "The cycle is the least common multiple of all periods; for no passes it is 1"
 unfoldable pub cycleOf : List PassRecord → ℕ
 cycleOf table = cycleFrom 1 (passesInOrder table)
 

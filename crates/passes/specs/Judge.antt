@@ -29,12 +29,14 @@ looseFlow table (P p) = false
 looseFlow table (F f) =
     eqb (f .source) (f .target) || not (any (isPass (f .source)) table) || not (any (isPass (f .target)) table)
 
--- the first record at fault by 3, by 4 and by 5
+-- 3: the first record at fault
 unfoldable pub fault3 : List PassRecord → Option ℕ
 fault3 = firstFault badNumber [] 0
 
+-- 4: the first record at fault
 unfoldable pub fault4 : List PassRecord → Option ℕ
 fault4 = firstFault (λ before r. badValue r) [] 0
 
+-- 5: the first record at fault
 unfoldable pub fault5 : List PassRecord → Option ℕ
 fault5 table = firstFault (λ before r. looseFlow table r) [] 0 table

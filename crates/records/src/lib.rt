@@ -1,6 +1,8 @@
 // The five 12-byte records of document 01 as plain values; reading one at a place of a table, and writing one at a place of an output.
 
+pub mod plain;
 pub mod read;
+pub mod reader;
 pub mod table;
 pub mod write;
 

@@ -13,6 +13,10 @@ pub mod Schedules
 pub mod Running
 pub mod Existence
 pub mod Feasibility
+pub mod Counts
+pub mod NormalFeasible
+pub mod Given
+pub mod Demands
 pub mod ByNumber
 pub mod States
 pub mod Links

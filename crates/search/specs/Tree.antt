@@ -43,9 +43,10 @@ unfoldable pub upToFull : ℕ → List (List ℕ) → ℕ
 upToFull n [] = 0
 upToFull n (q ∷ qs) = elim (full n q) [ true ↦ 1 | false ↦ upToFull n qs + 1 ]
 
--- the schedule's sequence, if there is one, and the openings
+-- the schedule's sequence, if there is one
 unfoldable pub schedule : List JobRecord → Option (List ℕ)
 schedule table = firstFull (length (numbers table)) (openSequences table)
 
+-- the openings
 unfoldable pub openings : List JobRecord → ℕ
 openings table = upToFull (length (numbers table)) (openSequences table)

@@ -1,48 +1,23 @@
--- `records::read::read_job` meets its contract: the record's first byte picks the case of `inJobs`. Assumes nothing.
-use mathlib.Core.Path.{_∙_}
-use native.Mathlib.Nat.{add-zero}
-use borrow.Author.Needs.{needs}
-use borrow.Author.Tests.{eq-eqb, ne-eqb}
-use Rattle.records.specs.Record.{inJobs}
-use Rattle.records.proofs.read.read_job.Statement.{statement}
-use Rattle.records.proofs.read.read_job.Tie as tie
-use Rattle.records.proofs.read.read_job.Reads as reads
-use Rattle.records.proofs.read.read_job.Lts as lts
-use Rattle.records.proofs.read.job_at.Reads as job-at-reads
-use Rattle.records.proofs.read.link_at.Reads as link-at-reads
+-- `records::read::read_job` meets its contract: it makes a reader by `at` and passes it on to `next_job`, and both meet theirs. Assumes nothing.
+use contract.Running.{givenOf, tables, tablesOf}
+use denote.Triple.Table.{entered, cited}
+use Rattle.records.proofs.ReaderContracts.{jobs, OnBytes, OnReader}
+use Rattle.records.proofs.PassedOn.{Makes, passed-on-meets}
+use Rattle.records.proofs.reader.at.Symbol as at-def
+use Rattle.records.proofs.reader.at.Symbol.{name as #records·reader·at}
+use Rattle.records.proofs.reader.at.Met as at-thm
+use Rattle.records.proofs.reader.next_job.Symbol as next-def
+use Rattle.records.proofs.reader.next_job.Symbol.{name as #records·reader·next-job}
+use Rattle.records.proofs.reader.next_job.Met as next-thm
+use Rattle.records.proofs.read.read_job.Key.{name as #records·read·read-job}
+use Rattle.records.proofs.read.read_job.Statement as stated
+use Rattle.records.proofs.read.read_job.Code as code
 
-mul-at : tie.Need-mul-at
-mul-at c = search needs
-
-shared-slice-read-kind : tie.Need-shared-slice-read-kind
-shared-slice-read-kind c = search needs
-
-job-at-requires : tie.Need-job-at-requires
-job-at-requires c κs = search needs
-
-returns : tie.Need-returns
-unfolding inJobs
-returns c = c .job-at .ensures ∙ rw (add-zero, eq-eqb _ _ (c .before .if1 .taken))
-
-link-at-requires : tie.Need-link-at-requires
-link-at-requires c κs = search needs
-
-returns-2 : tie.Need-returns-2
-unfolding inJobs
-returns-2 c = c .link-at .ensures ∙ rw (add-zero, ne-eqb _ _ (c .before .before .if1 .left), eq-eqb _ _ (c .before .if2 .taken))
-
-returns-3 : tie.Need-returns-3
-unfolding inJobs
-returns-3 c = rw (add-zero, ne-eqb _ _ (c .before .if1 .left), ne-eqb _ _ (c .if2 .left))
-
-pub read-job-spec : {M : Type 1} → statement M
-read-job-spec =
-    tie.close
-    (tie.spec
-    mul-at
-    shared-slice-read-kind
-    job-at-requires
-    returns
-    link-at-requires
-    returns-2
-    returns-3)
+pub read-job-spec : {M : Type 1} → stated.statement M
+unfolding code.routine tablesOf
+read-job-spec 𝓤 H 𝓜 𝓖 𝓡 =
+    entered 𝓤 H (OnBytes jobs 𝓤 H (𝓖 .A))
+    (tables 𝓤 H 𝓜 𝓡 code.env .C) (tables 𝓤 H 𝓜 𝓡 code.env .Λ) #records·read·read-job code.function (code.unfolded 𝓤 H 𝓜 𝓡)
+    (passed-on-meets jobs 𝓤 H (𝓖 .A) (givenOf 𝓤 H 𝓜 𝓖) (𝓜 .mem) (𝓡 .run) #records·reader·next-job (tablesOf 𝓤 H 𝓜 (tables 𝓤 H 𝓜 𝓡 code.env))
+    (cited 𝓤 H (Makes 𝓤 H (𝓖 .A) (𝓜 .mem) (𝓡 .run)) 𝓜 𝓡 code.env #records·reader·at at-def.routine code.calls-records·reader·at (at-thm.met 𝓤 H 𝓜 𝓖 𝓡))
+    (cited 𝓤 H (OnReader jobs 𝓤 H (𝓖 .A)) 𝓜 𝓡 code.env #records·reader·next-job next-def.routine code.calls-records·reader·next-job (next-thm.met 𝓤 H 𝓜 𝓖 𝓡)))

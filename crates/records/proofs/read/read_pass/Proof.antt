@@ -1,48 +1,23 @@
--- `records::read::read_pass` meets its contract: the record's first byte picks the case of `inPasses`. Assumes nothing.
-use mathlib.Core.Path.{_∙_}
-use native.Mathlib.Nat.{add-zero}
-use borrow.Author.Needs.{needs}
-use borrow.Author.Tests.{eq-eqb, ne-eqb}
-use Rattle.records.specs.Record.{inPasses}
-use Rattle.records.proofs.read.read_pass.Statement.{statement}
-use Rattle.records.proofs.read.read_pass.Tie as tie
-use Rattle.records.proofs.read.read_pass.Reads as reads
-use Rattle.records.proofs.read.read_pass.Lts as lts
-use Rattle.records.proofs.read.flow_at.Reads as flow-at-reads
-use Rattle.records.proofs.read.pass_at.Reads as pass-at-reads
+-- `records::read::read_pass` meets its contract: it makes a reader by `at` and passes it on to `next_pass`, and both meet theirs. Assumes nothing.
+use contract.Running.{givenOf, tables, tablesOf}
+use denote.Triple.Table.{entered, cited}
+use Rattle.records.proofs.ReaderContracts.{passes, OnBytes, OnReader}
+use Rattle.records.proofs.PassedOn.{Makes, passed-on-meets}
+use Rattle.records.proofs.reader.at.Symbol as at-def
+use Rattle.records.proofs.reader.at.Symbol.{name as #records·reader·at}
+use Rattle.records.proofs.reader.at.Met as at-thm
+use Rattle.records.proofs.reader.next_pass.Symbol as next-def
+use Rattle.records.proofs.reader.next_pass.Symbol.{name as #records·reader·next-pass}
+use Rattle.records.proofs.reader.next_pass.Met as next-thm
+use Rattle.records.proofs.read.read_pass.Key.{name as #records·read·read-pass}
+use Rattle.records.proofs.read.read_pass.Statement as stated
+use Rattle.records.proofs.read.read_pass.Code as code
 
-mul-at : tie.Need-mul-at
-mul-at c = search needs
-
-shared-slice-read-kind : tie.Need-shared-slice-read-kind
-shared-slice-read-kind c = search needs
-
-pass-at-requires : tie.Need-pass-at-requires
-pass-at-requires c κs = search needs
-
-returns : tie.Need-returns
-unfolding inPasses
-returns c = c .pass-at .ensures ∙ rw (add-zero, eq-eqb _ _ (c .before .if1 .taken))
-
-flow-at-requires : tie.Need-flow-at-requires
-flow-at-requires c κs = search needs
-
-returns-2 : tie.Need-returns-2
-unfolding inPasses
-returns-2 c = c .flow-at .ensures ∙ rw (add-zero, ne-eqb _ _ (c .before .before .if1 .left), eq-eqb _ _ (c .before .if2 .taken))
-
-returns-3 : tie.Need-returns-3
-unfolding inPasses
-returns-3 c = rw (add-zero, ne-eqb _ _ (c .before .if1 .left), ne-eqb _ _ (c .if2 .left))
-
-pub read-pass-spec : {M : Type 1} → statement M
-read-pass-spec =
-    tie.close
-    (tie.spec
-    mul-at
-    shared-slice-read-kind
-    pass-at-requires
-    returns
-    flow-at-requires
-    returns-2
-    returns-3)
+pub read-pass-spec : {M : Type 1} → stated.statement M
+unfolding code.routine tablesOf
+read-pass-spec 𝓤 H 𝓜 𝓖 𝓡 =
+    entered 𝓤 H (OnBytes passes 𝓤 H (𝓖 .A))
+    (tables 𝓤 H 𝓜 𝓡 code.env .C) (tables 𝓤 H 𝓜 𝓡 code.env .Λ) #records·read·read-pass code.function (code.unfolded 𝓤 H 𝓜 𝓡)
+    (passed-on-meets passes 𝓤 H (𝓖 .A) (givenOf 𝓤 H 𝓜 𝓖) (𝓜 .mem) (𝓡 .run) #records·reader·next-pass (tablesOf 𝓤 H 𝓜 (tables 𝓤 H 𝓜 𝓡 code.env))
+    (cited 𝓤 H (Makes 𝓤 H (𝓖 .A) (𝓜 .mem) (𝓡 .run)) 𝓜 𝓡 code.env #records·reader·at at-def.routine code.calls-records·reader·at (at-thm.met 𝓤 H 𝓜 𝓖 𝓡))
+    (cited 𝓤 H (OnReader passes 𝓤 H (𝓖 .A)) 𝓜 𝓡 code.env #records·reader·next-pass next-def.routine code.calls-records·reader·next-pass (next-thm.met 𝓤 H 𝓜 𝓖 𝓡)))
