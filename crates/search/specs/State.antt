@@ -13,6 +13,8 @@ use Rattle.records.specs.Outcome.{Outcome, done, refused, overwrite}
 use Rattle.records.specs.declared.Slot.{Slot}
 use Rattle.records.specs.declared.JobRecord.{JobRecord}
 use Rattle.jobs.specs.Jobs.{strongest}
+use Rattle.jobs.specs.declared.Jobs.{Jobs}
+use Rattle.normal.specs.Chosen.{presentIn}
 use Rattle.search.specs.declared.State.{State}
 use Rattle.search.specs.declared.Found.{Found}
 use Rattle.search.specs.declared.fit.Start.{Start}
@@ -107,12 +109,9 @@ slotsIn cost order ends n = encode slotBytes (map (slotAt cost order ends) (coun
 abbrev pub HaveRun : List ℕ → List ℕ → List ℕ → ℕ → Type 0
 HaveRun cost order ends n = (i : ℕ) → i < n → (at order i < 48) × (at cost (at order i) ≤ at ends (at order i))
 
--- the job numbers that there are, and one more than the largest of them
-unfoldable pub numbersIn : List Bool → List ℕ
-numbersIn present = keep (λ n. getD present n false) (count 0 48)
-
-unfoldable pub limitOf : List Bool → ℕ
-limitOf present = largest (map (λ n. n + 1) (numbersIn present))
+-- one more than the largest job number
+unfoldable pub limitOf : Jobs → ℕ
+limitOf jobs = largest (map (λ n. n + 1) (presentIn jobs))
 
 -- the state before any job has run
 unfoldable pub begun : List Bool → State
