@@ -56,8 +56,7 @@ module _ (table : List PassRecord) (sound : Sound table) where
       let to = ap (λ l. l .to) (h .ends) in
       let latency = ap (λ l. l .latency) (h .ends) in
       let i : h .i - 1 < cycleOf table / passAt table (f .source) .period = omega (arith, h .source) in
-      let j : h .j - 1 < cycleOf table / passAt table (f .target) .period = omega (arith, h .target) in
-      (
+      let j : h .j - 1 < cycleOf table / passAt table (f .target) .period = omega (arith, h .target) in (
         omega (arith, own-jobs (f .source) (known .0)),
         omega (arith, own-jobs (f .target) (known .1)),
         λ same. other-jobs (f .source) (f .target) (h .i - 1) (h .j - 1) (known .0) (known .1) (known .2) i j (omega arith),

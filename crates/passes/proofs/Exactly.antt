@@ -128,13 +128,13 @@ instance-job cycle first (q ∷ ps) rising p m k low high = step (List·Memᴰ·
         → List·Memᴰ (instanceOf p (first + firstJob cycle (q ∷ ps) (p .number)) k) (jobsFrom cycle first (q ∷ ps))
     step (inl e) below =
         let own : first + (cond (ltb (q .number) (q .number)) (instances cycle q) 0 + firstJob cycle ps (q .number)) ≡ first =
-            rw (le-ltb (q .number) (q .number) (le-refl (q .number))) (omega (arith, none-lower cycle (q .number) ps (rising .0))) in
+        rw (le-ltb (q .number) (q .number) (le-refl (q .number))) (omega (arith, none-lower cycle (q .number) ps (rising .0))) in
         let last : k ≤ cycle / q .period = rw (sym (ap (λ p. p .period) e)) high in
         rw (e, own) (Memᴰ·append-left (jobsFrom cycle (first + instances cycle q) ps) (Memᴰ·map (instanceOf q first) (count-member 1 (instances cycle q) k .1 (low, omega arith))))
     step (inr n) below =
         let behind = every-member (λ r. q .number < r .number) (rising .0) p n in
         let on : first + (cond (ltb (q .number) (p .number)) (instances cycle q) 0 + firstJob cycle ps (p .number)) ≡ first + instances cycle q + firstJob cycle ps (p .number) =
-            rw (lt-ltb (q .number) (p .number) behind) (omega arith) in
+        rw (lt-ltb (q .number) (p .number) behind) (omega arith) in
         rw on (Memᴰ·append-right (map (instanceOf q first) (count 1 (instances cycle q))) (below n k low high))
 
 -- the passes of a table rise in number
@@ -156,8 +156,7 @@ pub window-within : (table : List PassRecord) → Sound table → (j : Job) → 
 window-within table sound j m =
     let r = job-instance (cycleOf table) 0 (passesInOrder table) (order-rising table) j m in
     let limits = order-limits table sound (r .pass) (r .listed) in
-    let t = r .pass .period in
-    (
+    let t = r .pass .period in (
       omega (arith, r .cost, limits .0),
       omega (arith, r .deadline),
       omega (arith, r .release, r .deadline, limits .1 .1, periods (r .k) t (r .from-one), mul-le-mul-right t (r .to-last), div-mul-le-self (cycleOf table) t),
@@ -199,5 +198,5 @@ links-exact table l = (there, back)
         let one = only-member (eqb ((h .i - 1) * p .period) ((h .j - 1) * q .period)) _ l .1 (eq-eqb _ _ (h .together), h .ends) in
         let pair = flat-member (pairLinks (cycleOf table) (passesInOrder table) f p q (h .i)) (count 1 (cycleOf table / q .period)) l .1 (h .j, count-member 1 (cycleOf table / q .period) (h .j) .1 (h .target .0, omega (arith, h .target)), one) in
         let own = flat-member (λ i. flat (pairLinks (cycleOf table) (passesInOrder table) f p q i) (count 1 (cycleOf table / q .period))) (count 1 (cycleOf table / p .period)) l .1
-            (h .i, count-member 1 (cycleOf table / p .period) (h .i) .1 (h .source .0, omega (arith, h .source)), pair) in
+        (h .i, count-member 1 (cycleOf table / p .period) (h .i) .1 (h .source .0, omega (arith, h .source)), pair) in
         flat-member (flowLinks table (cycleOf table)) (flowsOf table) l .1 (f, h .given, own)
