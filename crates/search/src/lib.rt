@@ -16,6 +16,9 @@ ghost use Rattle.search.specs.State.{limitOf, linksInto, Answers};
 pub mod fit;
 pub mod tree;
 
+// No job has this number.
+const NO_JOB: usize = 48;
+
 // Which jobs have run, in what order, when each of them ended, and when the core is free. A number that no job has is marked as placed.
 pub struct State {
     pub placed: [bool; 48],
@@ -78,7 +81,7 @@ pub fn search(jobs: Jobs, into: &[[u16; 48]; 48], budget: u32, out: &mut [u8]) -
     let limit = limit_of(jobs);
     let count = count_jobs(jobs);
     let placed = absent(present);
-    if !fit::rest_fits(&cost, &release, &deadline, limit, &placed, 48, 0) {
+    if !fit::rest_fits(&cost, &release, &deadline, limit, &placed, NO_JOB, 0) {
         return Found {
             number: 10,
             openings: 0,
