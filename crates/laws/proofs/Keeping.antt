@@ -1,13 +1,11 @@
--- The numbers from m up to an end of which a test holds, as a loop that counts goes through them: none at the end, else those from m + 1 on, with m or without it.
--- They rise, and rising numbers are told by which they are.
-use Prim.Native.Nat.{ℕ, _+_, _-_, _≤_, _<_}
+-- The numbers from m up to an end of which a test holds; they rise, and rising numbers are told by which they are. And a test that passes on a whole list.
+use Prim.Native.Nat.{ℕ, _-_, _<_}
 use native.Mathlib.Omega.{arith}
 use mathlib.Core.Path.{_≡_, refl, sym, ap, ap₂}
-use mathlib.Core.Bool.{Bool, true, false, _&&_}
+use mathlib.Core.Bool.{Bool, true, _&&_}
 use mathlib.Core.Logic.{_↔_, _⊎_, inl, inr}
 use mathlib.Core.List.{List, [], _∷_, map, List·Memᴰ, List·Memᴰ·head, List·Memᴰ·tail, List·Memᴰ·not-nil, List·Memᴰ·cases-cons}
 use Rattle.laws.specs.Lists.{all, keep, count, Every}
-use Rattle.laws.proofs.Counting.{count-more, count-end}
 use Rattle.laws.proofs.Members.{every-member, member-every, Rising}
 use Rattle.laws.proofs.Tests.{all-means}
 
@@ -19,19 +17,6 @@ module _ (p : ℕ → Bool) where
   -- from 0 on they are all
   pub keep-start : (end : ℕ) → keepFrom 0 end ≡ keep p (count 0 end)
   keep-start end = let z : end - 0 ≡ end = omega arith in rw z
-
-  -- at the end there are none
-  pub keep-end : (m end : ℕ) → end ≤ m → keepFrom m end ≡ []
-  keep-end m end h = rw (count-end m end h)
-
-  module _ (m end : ℕ) (below : m < end) where
-    -- where the test fails of m, they are those from m + 1 on
-    pub keep-skip : p m ≡ false → keepFrom m end ≡ keepFrom (m + 1) end
-    keep-skip e = rw (count-more m end below, e)
-
-    -- where it holds, they are m and those
-    pub keep-take : p m ≡ true → keepFrom m end ≡ m ∷ keepFrom (m + 1) end
-    keep-take e = rw (count-more m end below, e)
 
 -- rising lists of the same numbers are equal
 pub rising-same : (xs ys : List ℕ) → Rising xs → Rising ys → ((n : ℕ) → List·Memᴰ n xs ↔ List·Memᴰ n ys) → xs ≡ ys

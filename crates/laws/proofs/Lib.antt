@@ -15,4 +15,3 @@ pub mod Gathering
 pub mod Sizes
 pub mod Storing
 pub mod Keeping
-pub mod Pieces

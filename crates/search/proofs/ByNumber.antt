@@ -2,10 +2,10 @@
 -- Lists of numbers that both rise are compared by which numbers they hold.
 use Prim.Native.Nat.{ℕ, _+_, _≤_, _<_}
 use native.Mathlib.Omega.{arith}
-use mathlib.Core.Path.{_≡_, refl, sym, ap, _∙_}
+use mathlib.Core.Path.{_≡_, ap, _∙_}
 use mathlib.Core.Bool.{Bool, true, false}
 use mathlib.Core.Logic.{_↔_}
-use mathlib.Core.List.{List, [], _∷_, map, List·Memᴰ, Memᴰ·map, Memᴰ·of-map}
+use mathlib.Core.List.{List, [], map, List·Memᴰ, Memᴰ·map, Memᴰ·of-map}
 use lib.ListN.{length, getD}
 use Rattle.laws.specs.Lists.{any, keep, count, largest}
 use Rattle.laws.proofs.Members.{count-member, keep-member, keep-length, keep-same, keep-rising, count-rising, largest-bounds, largest-least, Rising}
@@ -16,7 +16,8 @@ use Rattle.jobs.specs.Judge.{isJob}
 use Rattle.jobs.specs.Jobs.{numbers, cost, release, deadline, strongest}
 use Rattle.jobs.specs.Arrays.{jobsOf}
 use Rattle.jobs.proofs.Sound.{numbers-member, numbers-below, numbers-rising}
-use Rattle.search.specs.State.{at, numbersIn, limitOf, linksInto}
+use Rattle.normal.specs.Chosen.{presentIn}
+use Rattle.search.specs.State.{at, limitOf, linksInto}
 
 module _ (table : List JobRecord) where
   module _ (n : ℕ) (below : n < 48) where
@@ -44,8 +45,8 @@ module _ (table : List JobRecord) where
         ∙ getD-row (λ i. strongest table i n) 48 i 0 h
 
   -- the numbers that are marked as present are the table's
-  pub numbers-in : numbersIn (jobsOf table .present) ≡ numbers table
-  unfolding numbersIn numbers
+  pub numbers-in : presentIn (jobsOf table) ≡ numbers table
+  unfolding presentIn numbers
   numbers-in =
       keep-same (λ n. getD (jobsOf table .present) n false) (λ n. any (isJob n) table) (count 0 48)
       (λ n m. present-at n (count-member 0 48 n .0 m .1) false)
@@ -57,7 +58,7 @@ module _ (table : List JobRecord) where
 
   -- the limit is above each of them, and at most 48
   abbrev pub limit : ℕ
-  limit = limitOf (jobsOf table .present)
+  limit = limitOf (jobsOf table)
 
   limit-is : limit ≡ largest (map (λ n. n + 1) (numbers table))
   unfolding limitOf

@@ -1,17 +1,17 @@
 -- Laws of the test for live, as loops over the job numbers compute it: what each turn of a loop and each return shows.
 -- A loop that has come to number m keeps what it has found of the numbers below m; what it is still to find speaks of the numbers from m on.
-use Prim.Native.Nat.{ℕ, zero, suc, _+_, _-_, _≤_, _<_, max}
+use Prim.Native.Nat.{ℕ, _+_, _-_, _≤_, _<_, max}
 use native.Mathlib.Omega.{arith}
-use mathlib.Core.Path.{_≡_, refl, sym, ap, _∙_}
-use mathlib.Core.Bool.{Bool, true, false, cond, not, _&&_, _||_}
-use mathlib.Core.List.{List, [], _∷_, map}
-use lib.Dec.{leb, ltb, eqb}
+use mathlib.Core.Path.{_≡_, sym, ap, _∙_}
+use mathlib.Core.Bool.{Bool, true, false, cond, not, _&&_}
+use mathlib.Core.List.{List, _∷_, map}
+use lib.Dec.{leb, ltb}
 use borrow.Author.Tests.{eq-eqb, ne-eqb, le-ltb, lt-ltb, le-leb, lt-leb}
 use Rattle.laws.specs.Lists.{all, largest, total}
-use Rattle.laws.proofs.Keeping.{keepFrom, keep-start, keep-end, keep-skip, keep-take}
+use Rattle.laws.proofs.Scanning.{keep-taken, keep-left, keep-none}
+use Rattle.laws.proofs.Keeping.{keepFrom, keep-start}
 use Rattle.search.specs.declared.fit.Start.{Start}
 use Rattle.search.specs.declared.fit.Start.the-variants.{At, NotYet}
-use Rattle.search.specs.declared.fit.Next.{Next}
 use Rattle.search.specs.declared.fit.Next.the-variants.{Ends, Not}
 use Rattle.search.specs.State.{at, isPlaced, linked, startAt, StartBelow, remainsAfter, left, fitsAfter, togetherAfter, restFits, endsAt, opensAt}
 
@@ -29,7 +29,7 @@ module _ (row : List ℕ) (placed : List Bool) (ends : List ℕ) (limit : ℕ) w
 
   pub start-end : (t i : ℕ) → limit ≤ i → At t ≡ startFrom t i
   unfolding startFrom startAt
-  start-end t i h = rw (keep-end isLinked i limit h) (ap At (omega arith))
+  start-end t i h = rw (keep-none isLinked i limit h) (ap At (omega arith))
 
   start-more : (t i : ℕ) (from : List ℕ) → isPlaced placed i ≡ true → startAt row placed ends (max t (at ends i + (at row i - 1))) from ≡ startAt row placed ends t (i ∷ from)
   unfolding startAt
@@ -41,17 +41,17 @@ module _ (row : List ℕ) (placed : List Bool) (ends : List ℕ) (limit : ℕ) w
   module _ (t i latency : ℕ) (below : i < limit) (read : latency ≡ at row i) where
     pub start-skip : (t′ : ℕ) → t′ ≡ t → latency ≡ 0 → startFrom t′ (i + 1) ≡ startFrom t i
     unfolding startFrom
-    start-skip t′ kept none = rw kept (ap (startAt row placed ends t) (sym (keep-skip isLinked i limit below (le-ltb 0 (at row i) (omega arith)))))
+    start-skip t′ kept none = rw kept (ap (startAt row placed ends t) (sym (keep-left isLinked i limit below (le-ltb 0 (at row i) (omega arith)))))
 
     pub start-not : (latency ≡ 0 → ⊥) → isPlaced placed i ≡ false → NotYet ≡ startFrom t i
     unfolding startFrom startAt
-    start-not some e = rw (keep-take isLinked i limit below (lt-ltb 0 (at row i) (omega arith)), e)
+    start-not some e = rw (keep-taken isLinked i limit below (lt-ltb 0 (at row i) (omega arith)), e)
 
     pub start-on : (t′ end : ℕ) → t′ ≡ max t (end + (latency - 1)) → end ≡ at ends i → (latency ≡ 0 → ⊥) → isPlaced placed i ≡ true → startFrom t′ (i + 1) ≡ startFrom t i
     unfolding startFrom
     start-on t′ end raised ended some e =
         rw (raised, ended, read)
-        (start-more t i (keepFrom isLinked (i + 1) limit) e ∙ ap (startAt row placed ends t) (sym (keep-take isLinked i limit below (lt-ltb 0 (at row i) (omega arith)))))
+        (start-more t i (keepFrom isLinked (i + 1) limit) e ∙ ap (startAt row placed ends t) (sym (keep-taken isLinked i limit below (lt-ltb 0 (at row i) (omega arith)))))
 
 -- `remains`
 module _ (placed : List Bool) (k m : ℕ) where
@@ -86,16 +86,16 @@ module _ (cost release deadline : List ℕ) (limit : ℕ) (placed : List Bool) (
   rest-end costs last m h =
       let z : costs + 0 ≡ costs = omega arith in
       let y : max last 0 ≡ last = omega arith in
-      rw (keep-end (remainsAfter placed k) m limit h, z, y)
+      rw (keep-none (remainsAfter placed k) m limit h, z, y)
 
   module _ (costs last m : ℕ) (below : m < limit) where
     pub rest-skip : (costs′ last′ : ℕ) → costs′ ≡ costs → last′ ≡ last → remainsAfter placed k m ≡ false → restFrom costs′ last′ (m + 1) ≡ restFrom costs last m
     unfolding restFrom
-    rest-skip costs′ last′ p q e = rw (p, q, keep-skip (remainsAfter placed k) m limit below e)
+    rest-skip costs′ last′ p q e = rw (p, q, keep-left (remainsAfter placed k) m limit below e)
 
     pub rest-not : remainsAfter placed k m ≡ true → fitsAfter cost release deadline t m ≡ false → false ≡ restFrom costs last m
     unfolding restFrom
-    rest-not e f = rw (keep-take (remainsAfter placed k) m limit below e, f)
+    rest-not e f = rw (keep-taken (remainsAfter placed k) m limit below e, f)
 
     pub rest-on : (costs′ last′ c d : ℕ) → costs′ ≡ costs + c → last′ ≡ max last d → c ≡ at cost m → d ≡ at deadline m
         → remainsAfter placed k m ≡ true → fitsAfter cost release deadline t m ≡ true → restFrom costs′ last′ (m + 1) ≡ restFrom costs last m
@@ -104,7 +104,7 @@ module _ (cost release deadline : List ℕ) (limit : ℕ) (placed : List Bool) (
         let others = remainFrom (m + 1) in
         let z : costs + at cost m + total (map (at cost) others) ≡ costs + (at cost m + total (map (at cost) others)) = omega arith in
         let y : max (max last (at deadline m)) (largest (map (at deadline) others)) ≡ max last (max (at deadline m) (largest (map (at deadline) others))) = omega arith in
-        rw (keep-take (remainsAfter placed k) m limit below e, f, p, q, costing, due, z, y)
+        rw (keep-taken (remainsAfter placed k) m limit below e, f, p, q, costing, due, z, y)
 
 -- the last line of `rest_fits`
 pub together-none : (t costs last : ℕ) → costs ≡ 0 → true ≡ togetherAfter t costs last

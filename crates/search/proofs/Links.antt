@@ -1,11 +1,11 @@
 -- The links into a job, on the state that a sequence leads to: they say of the job what the table's links say after the sequence.
 -- A row holds a number above 0 exactly where a link comes from, and then the strongest link's latency; so each side is at least the other.
-use Prim.Native.Nat.{ℕ, suc, _+_, _-_, _≤_, _<_, max}
+use Prim.Native.Nat.{ℕ, _+_, _-_, _≤_, _<_, max}
 use native.Mathlib.Omega.{arith}
-use mathlib.Core.Path.{_≡_, refl, sym, ap, _∙_}
-use mathlib.Core.Bool.{Bool, true, false, cond}
-use mathlib.Core.Logic.{_↔_, _⊎_, inl, inr}
-use mathlib.Core.List.{List, [], _∷_, map, List·Memᴰ, Memᴰ·map, Memᴰ·of-map}
+use mathlib.Core.Path.{_≡_, refl}
+use mathlib.Core.Bool.{true, false, cond}
+use mathlib.Core.Logic.{_⊎_, inl, inr}
+use mathlib.Core.List.{List, [], map, List·Memᴰ, Memᴰ·map, Memᴰ·of-map}
 use lib.Dec.{ltb}
 use lib.ListN.{getD}
 use borrow.Author.Tests.{lt-ltb, ltb-true}
@@ -15,18 +15,17 @@ use Rattle.laws.proofs.Keeping.{all-members}
 use Rattle.records.specs.Record.{link}
 use Rattle.records.specs.declared.Link.{Link}
 use Rattle.records.specs.declared.JobRecord.{JobRecord}
-use Rattle.records.specs.declared.JobRecord.the-variants.{J, L}
+use Rattle.records.specs.declared.JobRecord.the-variants.{L}
 use Rattle.jobs.specs.Judge.{Sound}
-use Rattle.jobs.specs.Jobs.{numbers, release, strongest}
+use Rattle.jobs.specs.Jobs.{release, strongest}
 use Rattle.jobs.specs.Arrays.{jobsOf}
 use Rattle.jobs.proofs.Sound.{link-known, strongest-bounds, strongest-attained}
-use Rattle.search.specs.declared.fit.Start.{Start}
 use Rattle.search.specs.declared.fit.Start.the-variants.{At, NotYet}
 use Rattle.search.specs.Run.{has, linkedFrom, endIn, free, linksAllow, startAfter, run}
 use Rattle.search.specs.Order.{Sequence}
 use Rattle.search.specs.State.{at, isPlaced, linked, startAt, linksInto}
 use Rattle.search.proofs.Meanings.{has-member, all-linked}
-use Rattle.search.proofs.Rest.{rest, rest-member}
+use Rattle.search.proofs.Rest.{rest-member}
 use Rattle.search.proofs.Running.{linksAllow-least, linksAllow-bounds}
 use Rattle.search.proofs.ByNumber.{release-at, link-at, limit, limit-above, limit-most}
 use Rattle.search.proofs.States.{stateOf, state-free, state-ends, state-left}

@@ -1,56 +1,38 @@
--- Laws of the marks of the jobs that there are: what each turn of `count_of` and of `limit_of` shows.
--- A loop that has come to number k keeps what it has found of the numbers below k; what it is still to find speaks of the numbers from k on.
+-- Laws of the marks of the jobs that there are: what each turn of `limit_of` shows.
+-- The limit of the numbers below k and that of the numbers from k on are together the limit of all.
 use Prim.Native.Nat.{ℕ, _+_, _≤_, _<_, max}
 use native.Mathlib.Omega.{arith}
-use mathlib.Core.Path.{_≡_, refl, ap, _∙_}
-use mathlib.Core.Bool.{Bool, true, false}
-use mathlib.Core.List.{List, [], _∷_, map}
-use lib.ListN.{length, getD}
+use mathlib.Core.Path.{_≡_, ap}
+use mathlib.Core.Bool.{true, false}
+use mathlib.Core.List.{List, map}
+use lib.ListN.{getD}
 use Rattle.laws.specs.Lists.{largest}
-use Rattle.laws.proofs.Keeping.{keepFrom, keep-start, keep-end, keep-skip, keep-take}
-use Rattle.search.specs.State.{numbersIn, limitOf}
+use Rattle.jobs.specs.declared.Jobs.{Jobs}
+use Rattle.normal.proofs.RecordsFrom.{presentFrom, present-first, present-taken, present-left, present-end}
+use Rattle.search.specs.State.{limitOf}
 
-module _ (present : List Bool) where
-  abbrev isPresent : ℕ → Bool
-  isPresent n = getD present n false
+-- one more than the largest of some numbers
+abbrev past : List ℕ → ℕ
+past ns = largest (map (λ n. n + 1) ns)
 
-  -- how many jobs there are, with n of them below k
-  unfoldable pub countFrom : ℕ → ℕ → ℕ
-  countFrom n k = n + length (keepFrom isPresent k 48)
-
-  pub count-start : countFrom 0 0 ≡ length (numbersIn present)
-  unfolding countFrom numbersIn
-  count-start = omega (arith, ap length (keep-start isPresent 48))
-
-  pub count-done : (n k : ℕ) → 48 ≤ k → n ≡ countFrom n k
-  unfolding countFrom
-  count-done n k h = omega (arith, ap length (keep-end isPresent k 48 h))
-
-  -- one more than the largest number, with that of the numbers below k
+module _ (jobs : Jobs) where
+  -- the limit, with that of the numbers below k at hand
   unfoldable pub limitFrom : ℕ → ℕ → ℕ
-  limitFrom n k = max n (largest (map (λ i. i + 1) (keepFrom isPresent k 48)))
+  limitFrom n k = max n (past (presentFrom jobs k))
 
-  pub limit-start : limitFrom 0 0 ≡ limitOf present
-  unfolding limitFrom limitOf numbersIn
-  limit-start = omega (arith, ap (λ (l : List ℕ). largest (map (λ i. i + 1) l)) (keep-start isPresent 48))
+  pub limit-start : limitFrom 0 0 ≡ limitOf jobs
+  unfolding limitFrom limitOf
+  limit-start = omega (arith, ap past (present-first jobs))
 
   pub limit-done : (n k : ℕ) → 48 ≤ k → n ≡ limitFrom n k
   unfolding limitFrom
-  limit-done n k h = omega (arith, ap (λ (l : List ℕ). largest (map (λ i. i + 1) l)) (keep-end isPresent k 48 h))
+  limit-done n k h = omega (arith, ap past (present-end jobs k h))
 
   module _ (n m k : ℕ) (below : k < 48) where
-    pub count-skip : m ≡ n → isPresent k ≡ false → countFrom m (k + 1) ≡ countFrom n k
-    unfolding countFrom
-    count-skip e h = omega (arith, ap length (keep-skip isPresent k 48 below h))
-
-    pub count-on : m ≡ n + 1 → isPresent k ≡ true → countFrom m (k + 1) ≡ countFrom n k
-    unfolding countFrom
-    count-on e h = omega (arith, ap length (keep-take isPresent k 48 below h))
-
-    pub limit-skip : m ≡ n → isPresent k ≡ false → limitFrom m (k + 1) ≡ limitFrom n k
+    pub limit-skip : m ≡ n → getD (jobs .present) k false ≡ false → limitFrom m (k + 1) ≡ limitFrom n k
     unfolding limitFrom
-    limit-skip e h = omega (arith, ap (λ (l : List ℕ). largest (map (λ i. i + 1) l)) (keep-skip isPresent k 48 below h))
+    limit-skip e h = omega (arith, ap past (present-left jobs k below h))
 
-    pub limit-on : m ≡ k + 1 → n ≤ k → isPresent k ≡ true → limitFrom m (k + 1) ≡ limitFrom n k
+    pub limit-on : m ≡ k + 1 → n ≤ k → getD (jobs .present) k false ≡ true → limitFrom m (k + 1) ≡ limitFrom n k
     unfolding limitFrom
-    limit-on e l h = omega (arith, ap (λ (l : List ℕ). largest (map (λ i. i + 1) l)) (keep-take isPresent k 48 below h))
+    limit-on e l h = omega (arith, ap past (present-taken jobs k below h))

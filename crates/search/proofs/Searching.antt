@@ -7,7 +7,7 @@ use native.Mathlib.Omega.{arith}
 use mathlib.Core.Path.{_≡_, refl, sym, ap, _∙_}
 use mathlib.Core.Bool.{Bool, true, false, cond}
 use mathlib.Core.List.{List, [], _∷_, _++_, map, map-append, List·Memᴰ, List·Memᴰ·head, List·Memᴰ·tail}
-use mathlib.Core.Option.{Option, none, some}
+use mathlib.Core.Option.{Option, some}
 use lib.Dec.{eqb, ltb}
 use lib.ListN.{length}
 use borrow.Author.Tests.{eqb-true, eqb-false, eq-eqb, ne-eqb, ltb-true, ltb-false, lt-ltb, le-ltb}
@@ -26,8 +26,8 @@ use Rattle.search.specs.Run.{free, run}
 use Rattle.search.specs.Live.{live}
 use Rattle.search.specs.Tree.{opens, tryEach, openFrom, openSequences, firstFull, upToFull, schedule, openings}
 use Rattle.search.specs.Order.{Open}
-use Rattle.search.specs.Call.{slotsBytes, decided, searched}
-use Rattle.search.specs.State.{Given, given, nextAt, placeAt, slotsIn, linksInto, Node, node, tryEachAt, statesFrom, opened, begun, walk}
+use Rattle.search.specs.Call.{decided, searched}
+use Rattle.search.specs.State.{Given, given, placeAt, slotsIn, linksInto, Node, node, tryEachAt, statesFrom, opened, begun, walk}
 use Rattle.search.proofs.Meanings.{live-means}
 use Rattle.search.proofs.Rest.{sequence-length}
 use Rattle.search.proofs.Opening.{opens-means, open-next, open-start, openFrom-open}

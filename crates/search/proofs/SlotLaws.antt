@@ -1,45 +1,54 @@
 -- The slots of an order of jobs, written one behind the other; and that the jobs of an order have run, as each next one is placed.
 use Prim.Native.Nat.{ℕ, _+_, _-_, _*_, _≤_, _<_}
 use native.Mathlib.Omega.{arith}
-use mathlib.Core.Path.{_≡_, refl, sym, ap, _∙_}
+use mathlib.Core.Path.{_≡_, refl, ap, _∙_}
 use mathlib.Core.Bool.{Bool, true, false}
-use mathlib.Core.List.{List, _++_, map}
+use mathlib.Core.List.{List, map}
 use lib.Dec.{eqb}
-use lib.ListN.{length, set, length-map}
+use lib.ListN.{length, set}
 use lib.Seq.{paste, getD-set-same, getD-set-other}
 use borrow.Author.Tests.{eqb-true, eqb-false}
 use Rattle.laws.specs.Lists.{count}
 use Rattle.laws.proofs.Rows.{length-row}
-use Rattle.laws.proofs.Pieces.{paste-next, flat-row}
+use Rattle.laws.proofs.Counting.{count-more, count-end}
 use Rattle.records.specs.Record.{slot, slotBytes}
 use Rattle.records.specs.Table.{encode}
 use Rattle.records.specs.Outcome.{overwrite}
-use Rattle.records.proofs.Tables.{schedules}
+use Rattle.records.specs.declared.Slot.{Slot}
+use Rattle.records.proofs.Codec.{slots}
+use Rattle.records.proofs.Writing.{written-first}
+use Rattle.records.proofs.WritingLoop.{Writing, writing-first, writing-one, writing-end}
 use Rattle.search.specs.State.{at, slotAt, slotsIn, HaveRun}
 
--- a slot is twelve bytes
-slot-length : (n s e : ℕ) → length (slotBytes (slot n s e)) ≡ 12
-unfolding slotBytes
-slot-length n s e = refl
+module _ (cost order ends : List ℕ) (n : ℕ) where
+  -- the slots of the jobs from place i on, up to n
+  unfoldable pub slotsFrom : ℕ → List Slot
+  slotsFrom i = map (slotAt cost order ends) (count i (n - i))
 
-module _ (cost order ends : List ℕ) where
-  -- n slots are 12 bytes each
-  slots-length : (n : ℕ) → length (slotsIn cost order ends n) ≡ 12 * n
-  unfolding slotsIn
-  slots-length n = schedules .encode-length (map (slotAt cost order ends) (count 0 n)) ∙ ap (λ k. 12 * k) (length-row (slotAt cost order ends) 0 n)
+  -- of the first n slots those from place i on are left to write
+  abbrev pub SlotsLeft : List ℕ → List ℕ → ℕ → Type 0
+  SlotsLeft before out i = Writing slotBytes before 0 (slotsFrom 0) out i (slotsFrom i)
 
-  -- before any slot is written, the output is as it was
-  pub written-none : (before : List ℕ) → before ≡ overwrite (slotsIn cost order ends 0) before
-  unfolding slotsIn encode
-  written-none before = refl
+  -- at first all are left
+  pub slots-first : (before : List ℕ) → 12 * n ≤ length before → SlotsLeft before before 0
+  unfolding slotsFrom
+  slots-first before h = writing-first slots before 0 (slotsFrom 0) (omega (arith, length-row (slotAt cost order ends) 0 (n - 0)))
 
-  -- with the next slot pasted, one more is written
-  pub written-more : (before out : List ℕ) (i k : ℕ) → out ≡ overwrite (slotsIn cost order ends i) before → k ≡ at order i
-      → paste out (12 * i) (slotBytes (slot (at order i) (at ends k - at cost k) (at ends k))) 12 ≡ overwrite (slotsIn cost order ends (i + 1)) before
-  unfolding slotsIn encode
-  written-more before out i k e number =
-      rw (e, number, flat-row slotBytes (slotAt cost order ends) i)
-      (paste-next before (slotsIn cost order ends i) (slotBytes (slotAt cost order ends i)) (12 * i) 12 (slots-length i) (slot-length _ _ _))
+  -- with the slot at place i written, those from i + 1 on are left
+  pub slots-next : (before out : List ℕ) (i k : ℕ) (next : List ℕ) → SlotsLeft before out i → i < n → k ≡ at order i
+      → next ≡ paste out (12 * i) (slotBytes (slot (at order i) (at ends k - at cost k) (at ends k))) 12 → SlotsLeft before next (i + 1)
+  unfolding slotsFrom
+  slots-next before out i k next left below number made =
+      writing-one slots left next (slotAt cost order ends i) (slotsFrom (i + 1)) (ap (map (slotAt cost order ends)) (count-more i n below)) (rw number at made)
+
+  -- at the end all are written
+  pub slots-end : (before out : List ℕ) (i : ℕ) → SlotsLeft before out i → n ≤ i → out ≡ overwrite (slotsIn cost order ends n) before
+  unfolding slotsFrom slotsIn
+  slots-end before out i left end =
+      let all : n - 0 ≡ n = omega arith in
+      writing-end slots left (ap (map (slotAt cost order ends)) (count-end i n end))
+      ∙ written-first slots before (slotsFrom 0)
+      ∙ ap (λ m. overwrite (encode slotBytes (map (slotAt cost order ends) (count 0 m))) before) all
 
 -- the first n jobs and the one placed after them have run
 pub have-run-more : (cost order ends : List ℕ) (k end n : ℕ) → HaveRun cost order ends n → n < length order → k < length ends → k < 48 → at cost k ≤ end

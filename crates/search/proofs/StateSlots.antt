@@ -1,5 +1,5 @@
 -- The slots that the state of a sequence gives are those of the sequence's run, in running order: the order is the sequence, and each job ends in the state when it does in the run.
-use Prim.Native.Nat.{ℕ, _+_, _-_, _≤_, _<_}
+use Prim.Native.Nat.{ℕ, _-_, _≤_}
 use native.Mathlib.Nat.{zero-add}
 use native.Mathlib.Omega.{arith}
 use mathlib.Core.Path.{_≡_, refl, sym, ap, _∙_}
@@ -20,7 +20,7 @@ use Rattle.jobs.proofs.Sound.{numbers-below}
 use Rattle.search.specs.Run.{endIn, run}
 use Rattle.search.specs.Order.{Sequence}
 use Rattle.search.specs.Call.{slotsBytes}
-use Rattle.search.specs.State.{at, slotAt, slotsIn}
+use Rattle.search.specs.State.{at, slotsIn}
 use Rattle.search.proofs.Rest.{sequence-known}
 use Rattle.search.proofs.Running.{Says, run-numbers, run-holds, run-slots, placed}
 use Rattle.search.proofs.ByNumber.{cost-at}

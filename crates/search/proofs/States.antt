@@ -4,18 +4,18 @@ use Prim.Native.Nat.{ℕ, _+_, _≤_, _<_}
 use native.Mathlib.Omega.{arith}
 use mathlib.Core.Path.{_≡_, refl, sym, ap, _∙_}
 use mathlib.Core.Bool.{Bool, true, false, not}
-use mathlib.Core.Logic.{_↔_, _⊎_, inl, inr}
+use mathlib.Core.Logic.{_↔_, inl, inr}
 use mathlib.Core.List.{List, [], _∷_, _++_, map, reverse, reverse-cons, List·Memᴰ, List·Memᴰ·head, List·Memᴰ·tail, List·Memᴰ·cases-cons, List·Memᴰ·not-nil}
 use lib.Dec.{eqb}
-use lib.ListN.{length, getD, set, take, length-set, length-map, length-replicate, getD-replicate, List·getD-map}
+use lib.ListN.{length, set, take, length-set, length-map, length-replicate, getD-replicate, List·getD-map}
 use lib.Seq.{getD-set-same, getD-set-other, take-suc-set}
-use borrow.Author.Tests.{eqb-true, eqb-false, not-true, not-false}
+use borrow.Author.Tests.{eqb-true, eqb-false, not-false}
 use Rattle.laws.specs.Lists.{any, count}
 use Rattle.laws.proofs.Members.{true-not-false}
 use Rattle.laws.proofs.Rows.{length-row}
 use Rattle.records.specs.declared.JobRecord.{JobRecord}
 use Rattle.jobs.specs.Judge.{Sound, isJob}
-use Rattle.jobs.specs.Jobs.{numbers, cost}
+use Rattle.jobs.specs.Jobs.{cost}
 use Rattle.jobs.specs.Arrays.{jobsOf}
 use Rattle.jobs.proofs.Sound.{numbers-member, numbers-below}
 use Rattle.search.specs.declared.State.{State}

@@ -12,7 +12,6 @@ use Rattle.laws.proofs.Counting.{count-more, count-end}
 use Rattle.records.specs.Outcome.{Outcome, done, refused, overwrite}
 use Rattle.search.specs.declared.State.{State}
 use Rattle.search.specs.declared.Found.{Found}
-use Rattle.search.specs.declared.fit.Next.{Next}
 use Rattle.search.specs.declared.fit.Next.the-variants.{Ends, Not}
 use Rattle.search.specs.State.{Given, nextAt, placeAt, slotsIn, Node, node, tryEachAt, statesFrom, opened, tried, walk, Answers}
 

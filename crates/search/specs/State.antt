@@ -1,10 +1,10 @@
 -- The search on the state that the code hands on: what the code's contracts cite. A state says which jobs have run, in what order, when each ended, and when the core is free.
 -- The jobs are lists by number, as the code holds them; a number that no job has is marked as placed, so that "remaining" is "not placed".
-use Prim.Native.Nat.{ℕ, zero, suc, _+_, _-_, _*_, _<_, _≤_, max}
+use Prim.Native.Nat.{ℕ, zero, suc, _+_, _-_, _<_, _≤_, max}
 use mathlib.Core.Path.{_≡_}
 use mathlib.Core.Bool.{Bool, true, false, cond, not, _&&_, _||_}
 use mathlib.Core.List.{List, [], _∷_, _++_, map}
-use lib.ListN.{length, getD, set, replicate}
+use lib.ListN.{getD, set, replicate}
 use lib.Dec.{leb, ltb, eqb}
 use Rattle.laws.specs.Lists.{all, keep, count, largest, total}
 use Rattle.records.specs.Record.{slot, slotBytes}
@@ -13,6 +13,8 @@ use Rattle.records.specs.Outcome.{Outcome, done, refused, overwrite}
 use Rattle.records.specs.declared.Slot.{Slot}
 use Rattle.records.specs.declared.JobRecord.{JobRecord}
 use Rattle.jobs.specs.Jobs.{strongest}
+use Rattle.jobs.specs.declared.Jobs.{Jobs}
+use Rattle.normal.specs.Chosen.{presentIn}
 use Rattle.search.specs.declared.State.{State}
 use Rattle.search.specs.declared.Found.{Found}
 use Rattle.search.specs.declared.fit.Start.{Start}
@@ -107,12 +109,9 @@ slotsIn cost order ends n = encode slotBytes (map (slotAt cost order ends) (coun
 abbrev pub HaveRun : List ℕ → List ℕ → List ℕ → ℕ → Type 0
 HaveRun cost order ends n = (i : ℕ) → i < n → (at order i < 48) × (at cost (at order i) ≤ at ends (at order i))
 
--- the job numbers that there are, and one more than the largest of them
-unfoldable pub numbersIn : List Bool → List ℕ
-numbersIn present = keep (λ n. getD present n false) (count 0 48)
-
-unfoldable pub limitOf : List Bool → ℕ
-limitOf present = largest (map (λ n. n + 1) (numbersIn present))
+-- one more than the largest job number
+unfoldable pub limitOf : Jobs → ℕ
+limitOf jobs = largest (map (λ n. n + 1) (presentIn jobs))
 
 -- the state before any job has run
 unfoldable pub begun : List Bool → State
@@ -144,7 +143,7 @@ unfoldable pub statesFrom : Given → ℕ → State → ℕ → List Node
 statesFrom g zero s d = node s d ∷ []
 statesFrom g (suc n) s d = node s d ∷ tryEachAt g (λ t. statesFrom g n t (d + 1)) s d (count 0 (g .limit))
 
--- what opening a state looks through, and what trying its next job does from job k on
+-- what opening a state looks through, and what trying its next job from job k on looks through
 unfoldable pub opened : Given → State → ℕ → List Node
 opened g s d = statesFrom g (g .count - d) s d
 
@@ -162,6 +161,13 @@ walk g budget (x ∷ xs) n =
         | false ↦ walk g budget xs (n + 1)
       ]
     ]
+
+-- what opening a state comes to, n being opened before it, and what trying its next job from job k on comes to
+abbrev pub opening : Given → ℕ → State → ℕ → ℕ → Outcome
+opening g budget s d n = walk g budget (opened g s d) n
+
+abbrev pub trying : Given → ℕ → State → ℕ → ℕ → ℕ → Outcome
+trying g budget s d k n = walk g budget (tried g s d k) n
 
 -- the code's answer, and the output before and after the call, are those of an outcome
 pub record Answers (o : Outcome) (r : Found) (before after : List ℕ) : Type 0 where

@@ -1,5 +1,6 @@
 // The search for the first schedule in order, on a normal form.
 use jobs::Jobs;
+use normal::write::count_jobs;
 ghost use mathlib.Core.Path.{_≡_};
 ghost use mathlib.Core.Bool.{not};
 ghost use mathlib.Core.List.{List, map};
@@ -8,11 +9,15 @@ ghost use lib.ListN.{length};
 ghost use Rattle.records.specs.declared.JobRecord.{JobRecord};
 ghost use Rattle.jobs.specs.Judge.{Sound};
 ghost use Rattle.jobs.specs.Arrays.{jobsOf};
+ghost use Rattle.normal.specs.Chosen.{presentIn};
 ghost use Rattle.search.specs.Call.{searched};
-ghost use Rattle.search.specs.State.{numbersIn, limitOf, linksInto, Answers};
+ghost use Rattle.search.specs.State.{limitOf, linksInto, Answers};
 
 pub mod fit;
 pub mod tree;
+
+// No job has this number.
+const NO_JOB: usize = 48;
 
 // Which jobs have run, in what order, when each of them ended, and when the core is free. A number that no job has is marked as placed.
 pub struct State {
@@ -48,29 +53,14 @@ fn absent(present: [bool; 48]) -> [bool; 48]
     marks
 }
 
-// How many jobs there are.
-pub fn count_of(present: [bool; 48]) -> usize
-    ensures { λ r. ⌜ (r ≡ length (numbersIn present)) × (r ≤ 48) ⌝ }
-{
-    let mut count: usize = 0;
-    let mut k: usize = 0;
-    while k < 48 {
-        if present[k] {
-            count += 1;
-        }
-        k += 1;
-    }
-    count
-}
-
 // One more than the largest job number.
-fn limit_of(present: [bool; 48]) -> usize
-    ensures { λ r. ⌜ (r ≡ limitOf present) × (r ≤ 48) ⌝ }
+fn limit_of(jobs: Jobs) -> usize
+    ensures { λ r. ⌜ (r ≡ limitOf jobs) × (r ≤ 48) ⌝ }
 {
     let mut limit: usize = 0;
     let mut k: usize = 0;
     while k < 48 {
-        if present[k] {
+        if jobs.present[k] {
             limit = k + 1;
         }
         k += 1;
@@ -81,17 +71,17 @@ fn limit_of(present: [bool; 48]) -> usize
 // The search under a budget on a normal form, given as its jobs by number and, by number too, the links into each job: `into[k][i]` is one more than the latency
 // of the link from i to k, 0 where there is none. The output has room for a slot of each job.
 pub fn search(jobs: Jobs, into: &[[u16; 48]; 48], budget: u32, out: &mut [u8]) -> Found
-    requires { ⌜ 12 * length (numbersIn (jobs .present)) ≤ length (now out) ⌝ }
+    requires { ⌜ 12 * length (presentIn jobs) ≤ length (now out) ⌝ }
     ensures { λ r. ⌜ ((table : List JobRecord) → Sound table → jobs ≡ jobsOf table → now (into .entry) ≡ linksInto table → Answers (searched table budget) r (now (out .entry)) (now (out .exit))) ⌝ }
 {
     let present = jobs.present;
     let cost = jobs.cost;
     let release = jobs.release;
     let deadline = jobs.deadline;
-    let limit = limit_of(present);
-    let count = count_of(present);
+    let limit = limit_of(jobs);
+    let count = count_jobs(jobs);
     let placed = absent(present);
-    if !fit::rest_fits(&cost, &release, &deadline, limit, &placed, 48, 0) {
+    if !fit::rest_fits(&cost, &release, &deadline, limit, &placed, NO_JOB, 0) {
         return Found {
             number: 10,
             openings: 0,

@@ -10,7 +10,7 @@ ghost use mathlib.Core.List.{List};
 ghost use Prim.Native.Nat.{ℕ, _+_, _*_, _<_, _≤_};
 ghost use lib.ListN.{length};
 ghost use Rattle.records.specs.Outcome.{overwrite};
-ghost use Rattle.search.specs.State.{at, placeAt, slotsIn, HaveRun, given, opened, tried, walk, Answers};
+ghost use Rattle.search.specs.State.{at, placeAt, slotsIn, HaveRun, given, opening, trying, Answers};
 
 // The state with job k run next, at the place `depth`, until `end`.
 fn place(s: State, k: usize, end: u16, depth: usize) -> State
@@ -69,7 +69,7 @@ pub fn open(
 ) -> Found
     requires { ⌜ (b .limit ≤ 48) × (b .count ≤ 48) × (depth ≤ b .count) × (n ≤ b .budget) × (12 * b .count ≤ length (now out)) × HaveRun (now cost) (s .order) (s .ends) depth ⌝ }
     ensures { λ r. ⌜ r .openings ≤ b .budget ⌝ }
-    ensures { λ r. ⌜ Answers (walk (given (now (cost .entry)) (now (release .entry)) (now (deadline .entry)) (now (into .entry)) (b .limit) (b .count)) (b .budget) (opened (given (now (cost .entry)) (now (release .entry)) (now (deadline .entry)) (now (into .entry)) (b .limit) (b .count)) s depth) n) r (now (out .entry)) (now (out .exit)) ⌝ }
+    ensures { λ r. ⌜ Answers (opening (given (now (cost .entry)) (now (release .entry)) (now (deadline .entry)) (now (into .entry)) (b .limit) (b .count)) (b .budget) s depth n) r (now (out .entry)) (now (out .exit)) ⌝ }
 {
     let budget = b.budget;
     let count = b.count;
@@ -104,7 +104,7 @@ fn try_next(
 ) -> Found
     requires { ⌜ (b .limit ≤ 48) × (b .count ≤ 48) × (depth < b .count) × (n ≤ b .budget) × (12 * b .count ≤ length (now out)) × HaveRun (now cost) (s .order) (s .ends) depth ⌝ }
     ensures { λ r. ⌜ r .openings ≤ b .budget ⌝ }
-    ensures { λ r. ⌜ Answers (walk (given (now (cost .entry)) (now (release .entry)) (now (deadline .entry)) (now (into .entry)) (b .limit) (b .count)) (b .budget) (tried (given (now (cost .entry)) (now (release .entry)) (now (deadline .entry)) (now (into .entry)) (b .limit) (b .count)) s depth from) n) r (now (out .entry)) (now (out .exit)) ⌝ }
+    ensures { λ r. ⌜ Answers (trying (given (now (cost .entry)) (now (release .entry)) (now (deadline .entry)) (now (into .entry)) (b .limit) (b .count)) (b .budget) s depth from n) r (now (out .entry)) (now (out .exit)) ⌝ }
 {
     let limit = b.limit;
     let free = s.free;

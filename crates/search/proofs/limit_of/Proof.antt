@@ -10,16 +10,16 @@ use Rattle.search.proofs.limit_of.Statement.{statement}
 use Rattle.search.proofs.limit_of.Tie as tie
 
 abbrev Inv-loop : tie.InvT-loop
-Inv-loop present limit₀ k₀ limit k = (k ≤ 48) × (limit ≤ k) × (limitFrom present limit k ≡ limitOf present)
+Inv-loop jobs limit₀ k₀ limit k = (k ≤ 48) × (limit ≤ k) × (limitFrom jobs limit k ≡ limitOf jobs)
 
 abbrev μ-loop : tie.MeasureT-loop
-μ-loop present limit₀ k₀ limit k = 48 - k
+μ-loop jobs limit₀ k₀ limit k = 48 - k
 
 loop-holds : tie.Need-loop-holds Inv-loop μ-loop
 loop-holds c = (search needs, search needs, limit-start _)
 
-array-read-if1 : tie.Need-array-read-if1 Inv-loop μ-loop
-array-read-if1 c = search needs
+element-copy-out-if1 : tie.Need-element-copy-out-if1 Inv-loop μ-loop
+element-copy-out-if1 c = search needs
 
 add-limit : tie.Need-add-limit Inv-loop μ-loop
 add-limit c = search needs
@@ -34,8 +34,8 @@ loop-again : tie.Need-loop-again Inv-loop μ-loop
 loop-again c = (
   search needs,
   ⊎-elim (λ w. omega arith) (λ w. omega arith) (c .if1 .came),
-  ⊎-elim (λ w. limit-on _ _ _ _ (c .before .loop-test .taken) (w .1) (c .before .before .loop .inv .1) (w .0 .taken)) (λ w. limit-skip _ _ _ _ (c .before .loop-test .taken) (w .1) (w .0 .left)) (c .if1 .came)
-      ∙ c .before .before .loop .inv .2,
+  ⊎-elim (λ w. limit-on _ _ _ _ (c .before .before .loop-test .taken) (w .1) (c .before .before .before .loop .inv .1) (w .0 .taken)) (λ w. limit-skip _ _ _ _ (c .before .before .loop-test .taken) (w .1) (w .0 .left)) (c .if1 .came)
+      ∙ c .before .before .before .loop .inv .2,
 )
 
 returns : tie.Need-returns Inv-loop μ-loop
@@ -48,7 +48,7 @@ limit-of-spec =
     Inv-loop
     μ-loop
     loop-holds
-    array-read-if1
+    element-copy-out-if1
     add-limit
     add-k
     loop-less

@@ -9,8 +9,8 @@ use Rattle.search.proofs.search.Tie as tie
 limit-of-requires : tie.Need-limit-of-requires
 limit-of-requires c κs = search needs
 
-count-of-requires : tie.Need-count-of-requires
-count-of-requires c κs = search needs
+count-jobs-requires : tie.Need-count-jobs-requires
+count-jobs-requires c κs = search needs
 
 absent-requires : tie.Need-absent-requires
 absent-requires c κs = search needs
@@ -28,14 +28,14 @@ same-length : tie.Need-same-length
 same-length c = search needs
 
 returns-2 : tie.Need-returns-2
-returns-2 c table sound is links = door-live table sound _ _ _ _ _ _ _ _ is (c .before .before .before .before .before .before .before .before .before .before .before .before .before .absent .ensures) (c .before .before .before .before .before .before .before .before .before .before .before .before .before .before .before .limit-of .ensures .0) (c .before .before .before .before .before .before .before .before .rest-fits .ensures) _ _ _ links (c .before .before .before .before .before .before .before .before .before .before .before .before .before .before .count-of .ensures .0) refl (not-false _ (c .before .before .before .before .before .before .before .if1 .left)) (c .before .before .«open» .ensures .1)
+returns-2 c table sound is links = door-live table sound _ _ _ _ _ _ _ _ is (c .before .before .before .before .before .before .before .before .before .before .before .before .before .absent .ensures) (c .before .before .before .before .before .before .before .before .before .before .before .before .before .before .before .limit-of .ensures .0) (c .before .before .before .before .before .before .before .before .rest-fits .ensures) _ _ _ links (c .before .before .before .before .before .before .before .before .before .before .before .before .before .before .count-jobs .ensures .1) refl (not-false _ (c .before .before .before .before .before .before .before .if1 .left)) (c .before .before .«open» .ensures .1)
 
 pub search-spec : {M : Type 1} → statement M
 search-spec =
     tie.close
     (tie.spec
     limit-of-requires
-    count-of-requires
+    count-jobs-requires
     absent-requires
     rest-fits-requires
     returns

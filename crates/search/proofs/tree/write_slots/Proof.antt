@@ -1,24 +1,22 @@
--- `search::tree::write_slots` meets its contract: the slots of the first i jobs are written, and the output is as it was behind them. Assumes nothing.
+-- `search::tree::write_slots` meets its contract: of the slots those from place i on are left to write. Assumes nothing.
 use Prim.Native.Nat.{_≤_, _<_, _*_, _-_}
-use mathlib.Core.Path.{_≡_, _∙_}
 use native.Mathlib.Omega.{arith}
 use borrow.Author.Needs.{needs}
 use lib.ListN.{length}
-use Rattle.records.specs.Outcome.{overwrite}
-use Rattle.search.specs.State.{at, slotsIn, HaveRun}
-use Rattle.search.proofs.SlotLaws.{written-none, written-more}
+use Rattle.search.specs.State.{at, HaveRun}
+use Rattle.search.proofs.SlotLaws.{SlotsLeft, slots-first, slots-next, slots-end}
 use Rattle.search.proofs.tree.write_slots.Statement.{statement}
 use Rattle.search.proofs.tree.write_slots.Tie as tie
 
 abbrev Inv-loop : tie.InvT-loop
 Inv-loop out₀ cost order ends count i₀ out i =
-    (i ≤ count) × (count ≤ 48) × (12 * count ≤ length out) × HaveRun cost order ends count × (length out ≡ length out₀) × (out ≡ overwrite (slotsIn cost order ends i) out₀)
+    (i ≤ count) × (count ≤ 48) × (12 * count ≤ length out₀) × HaveRun cost order ends count × SlotsLeft cost order ends count out₀ out i
 
 abbrev μ-loop : tie.MeasureT-loop
 μ-loop out₀ cost order ends count i₀ out i = count - i
 
 loop-holds : tie.Need-loop-holds Inv-loop μ-loop
-loop-holds c = (search needs, search needs, search needs, c .before .pre .2, search needs, written-none _ _ _ _)
+loop-holds c = (search needs, search needs, search needs, c .before .pre .2, slots-first _ _ _ _ _ (search needs))
 
 element-copy-out-number : tie.Need-element-copy-out-number Inv-loop μ-loop
 element-copy-out-number c = search needs
@@ -60,19 +58,16 @@ loop-again : tie.Need-loop-again Inv-loop μ-loop
 loop-again c = (
   search needs,
   search needs,
-  omega (arith, c .before .before .write-slot .kept .0),
+  search needs,
   c .before .before .before .before .before .before .before .before .before .loop .inv .3,
-  c .before .before .write-slot .kept .0 ∙ c .before .before .before .before .before .before .before .before .before .loop .inv .4,
-  c .before .before .write-slot .ensures ∙ written-more _ _ _ _ _ _ _ (c .before .before .before .before .before .before .before .before .before .loop .inv .5) (c .before .before .before .before .before .before .index .ensures),
+  slots-next _ _ _ _ _ _ _ _ _ (c .before .before .before .before .before .before .before .before .before .loop .inv .4) (c .before .before .before .before .before .before .before .before .loop-test .taken) (c .before .before .before .before .before .before .index .ensures) (c .before .before .write-slot .ensures),
 )
 
 same-length : tie.Need-same-length Inv-loop μ-loop
 same-length c = search needs
 
 returns : tie.Need-returns Inv-loop μ-loop
-returns c =
-    let e : c .before .loop .i ≡ c .before .before .before .args .count = omega arith in
-    rw e at (c .before .loop .inv .5)
+returns c = slots-end _ _ _ _ _ _ _ (c .before .loop .inv .4) (c .loop-test .left)
 
 pub write-slots-spec : {M : Type 1} → statement M
 write-slots-spec =
