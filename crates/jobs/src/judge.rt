@@ -79,25 +79,25 @@ fn first_bad_value(s: &[u8], n: usize) -> Found
 }
 
 // 5: a link that names itself, or a job not in the table.
-fn loose_ends(jobs: Jobs, l: Link) -> bool
-    ensures { λ b. ⌜ ((table : List JobRecord) → fault3 table ≡ none → jobs ≡ jobsOf table → b ≡ looseLink table (L l)) ⌝ }
+fn loose_ends(present: &[bool; 48], l: Link) -> bool
+    ensures { λ b. ⌜ ((table : List JobRecord) → fault3 table ≡ none → now (present .entry) ≡ jobsOf table .present → b ≡ looseLink table (L l)) ⌝ }
 {
     if l.from == l.to {
         return true;
     }
-    if !is_present(jobs, l.from) {
+    if !is_present(present, l.from) {
         return true;
     }
-    !is_present(jobs, l.to)
+    !is_present(present, l.to)
 }
 
 // 5: the record is such a link.
-fn loose_link(jobs: Jobs, r: JobRecord) -> bool
-    ensures { λ b. ⌜ ((table : List JobRecord) → fault3 table ≡ none → jobs ≡ jobsOf table → b ≡ looseLink table r) ⌝ }
+fn loose_link(present: &[bool; 48], r: JobRecord) -> bool
+    ensures { λ b. ⌜ ((table : List JobRecord) → fault3 table ≡ none → now (present .entry) ≡ jobsOf table .present → b ≡ looseLink table r) ⌝ }
 {
     match r {
         JobRecord::J(_) => false,
-        JobRecord::L(l) => loose_ends(jobs, l),
+        JobRecord::L(l) => loose_ends(present, l),
     }
 }
 
@@ -112,7 +112,7 @@ fn first_loose(s: &[u8], n: usize, jobs: Jobs) -> Found
         let JobRead::Record(r) = read_job(s, i) else {
             return Found::At(i);
         };
-        if loose_link(jobs, r) {
+        if loose_link(&jobs.present, r) {
             return Found::At(i);
         }
         i += 1;

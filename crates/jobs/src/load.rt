@@ -40,19 +40,19 @@ pub(crate) fn no_jobs() -> Jobs
 }
 
 // The mark of a number: there is a job with it.
-pub(crate) fn is_present(jobs: Jobs, number: u8) -> bool
-    ensures { λ b. ⌜ ((table : List JobRecord) → jobs ≡ jobsOf table → b ≡ getD (jobsOf table .present) number false) ⌝ }
+pub(crate) fn is_present(present: &[bool; 48], number: u8) -> bool
+    ensures { λ b. ⌜ ((table : List JobRecord) → now (present .entry) ≡ jobsOf table .present → b ≡ getD (jobsOf table .present) number false) ⌝ }
 {
     let k = number as usize;
     if k < 48 {
-        return jobs.present[k];
+        return present[k];
     }
     false
 }
 
 // 3: the number of a job is over 47, or that of a job before it.
-fn bad_number(jobs: Jobs, r: JobRecord) -> bool
-    ensures { λ b. ⌜ ((before : List JobRecord) → jobs ≡ jobsOf before → b ≡ badNumber before r) ⌝ }
+fn bad_number(present: &[bool; 48], r: JobRecord) -> bool
+    ensures { λ b. ⌜ ((before : List JobRecord) → now (present .entry) ≡ jobsOf before .present → b ≡ badNumber before r) ⌝ }
 {
     match r {
         JobRecord::J(j) => {
@@ -60,7 +60,7 @@ fn bad_number(jobs: Jobs, r: JobRecord) -> bool
             if 47 < number {
                 return true;
             }
-            is_present(jobs, number)
+            is_present(present, number)
         }
         JobRecord::L(_) => false,
     }
@@ -80,17 +80,6 @@ fn with_job(jobs: Jobs, j: Job) -> Jobs
     t
 }
 
-// The jobs with those of one more record, which is not at fault.
-fn with_record(jobs: Jobs, r: JobRecord) -> Jobs
-    requires { ⌜ badNumber [] r ≡ false ⌝ }
-    ensures { λ t. ⌜ ((before : List JobRecord) → jobs ≡ jobsOf before → t ≡ jobsOf (r ∷ before)) ⌝ }
-{
-    match r {
-        JobRecord::J(j) => with_job(jobs, j),
-        JobRecord::L(_) => jobs,
-    }
-}
-
 // The jobs of all records, or the first at fault by 3.
 pub(crate) fn load_jobs(s: &[u8], n: usize) -> Loaded
     requires { ⌜ (length (now s) ≡ 12 * n) × (unreadable (readAll inJobs (now s)) ≡ none) ⌝ }
@@ -106,13 +95,15 @@ pub(crate) fn load_jobs(s: &[u8], n: usize) -> Loaded
                 jobs,
             };
         };
-        if bad_number(jobs, r) {
+        if bad_number(&jobs.present, r) {
             return Loaded {
                 fault: Found::At(i),
                 jobs,
             };
         }
-        jobs = with_record(jobs, r);
+        if let JobRecord::J(j) = r {
+            jobs = with_job(jobs, j);
+        }
         i += 1;
     }
     Loaded {

@@ -84,25 +84,25 @@ fn first_bad_value(s: &[u8], n: usize) -> Found
 }
 
 // 5: a flow that names itself, or a pass not in the table.
-fn loose_ends(passes: Passes, f: Flow) -> bool
-    ensures { λ b. ⌜ ((table : List PassRecord) → fault3 table ≡ none → passes ≡ passesOf table → b ≡ looseFlow table (F f)) ⌝ }
+fn loose_ends(present: &[bool; 24], f: Flow) -> bool
+    ensures { λ b. ⌜ ((table : List PassRecord) → fault3 table ≡ none → now (present .entry) ≡ passesOf table .present → b ≡ looseFlow table (F f)) ⌝ }
 {
     if f.source == f.target {
         return true;
     }
-    if !is_present(passes, f.source) {
+    if !is_present(present, f.source) {
         return true;
     }
-    !is_present(passes, f.target)
+    !is_present(present, f.target)
 }
 
 // 5: the record is such a flow.
-fn loose_flow(passes: Passes, r: PassRecord) -> bool
-    ensures { λ b. ⌜ ((table : List PassRecord) → fault3 table ≡ none → passes ≡ passesOf table → b ≡ looseFlow table r) ⌝ }
+fn loose_flow(present: &[bool; 24], r: PassRecord) -> bool
+    ensures { λ b. ⌜ ((table : List PassRecord) → fault3 table ≡ none → now (present .entry) ≡ passesOf table .present → b ≡ looseFlow table r) ⌝ }
 {
     match r {
         PassRecord::P(_) => false,
-        PassRecord::F(f) => loose_ends(passes, f),
+        PassRecord::F(f) => loose_ends(present, f),
     }
 }
 
@@ -117,7 +117,7 @@ fn first_loose(s: &[u8], n: usize, passes: Passes) -> Found
         let PassRead::Record(r) = read_pass(s, i) else {
             return Found::At(i);
         };
-        if loose_flow(passes, r) {
+        if loose_flow(&passes.present, r) {
             return Found::At(i);
         }
         i += 1;

@@ -39,19 +39,19 @@ pub(crate) fn no_passes() -> Passes
 }
 
 // There is a pass with this number.
-pub(crate) fn is_present(passes: Passes, number: u8) -> bool
-    ensures { λ b. ⌜ ((table : List PassRecord) → passes ≡ passesOf table → b ≡ getD (passesOf table .present) number false) ⌝ }
+pub(crate) fn is_present(present: &[bool; 24], number: u8) -> bool
+    ensures { λ b. ⌜ ((table : List PassRecord) → now (present .entry) ≡ passesOf table .present → b ≡ getD (passesOf table .present) number false) ⌝ }
 {
     let k = number as usize;
     if k < 24 {
-        return passes.present[k];
+        return present[k];
     }
     false
 }
 
 // 3: the number of a pass is over 23, or that of a pass before it.
-fn bad_number(passes: Passes, r: PassRecord) -> bool
-    ensures { λ b. ⌜ ((before : List PassRecord) → passes ≡ passesOf before → b ≡ badNumber before r) ⌝ }
+fn bad_number(present: &[bool; 24], r: PassRecord) -> bool
+    ensures { λ b. ⌜ ((before : List PassRecord) → now (present .entry) ≡ passesOf before .present → b ≡ badNumber before r) ⌝ }
 {
     match r {
         PassRecord::P(p) => {
@@ -59,7 +59,7 @@ fn bad_number(passes: Passes, r: PassRecord) -> bool
             if 23 < number {
                 return true;
             }
-            is_present(passes, number)
+            is_present(present, number)
         }
         PassRecord::F(_) => false,
     }
@@ -80,17 +80,6 @@ fn with_pass(passes: Passes, p: Pass) -> Passes
     t
 }
 
-// The passes with that of one more record, which is not at fault.
-fn with_record(passes: Passes, r: PassRecord) -> Passes
-    requires { ⌜ badNumber [] r ≡ false ⌝ }
-    ensures { λ t. ⌜ ((before : List PassRecord) → passes ≡ passesOf before → t ≡ passesOf (r ∷ before)) ⌝ }
-{
-    match r {
-        PassRecord::P(p) => with_pass(passes, p),
-        PassRecord::F(_) => passes,
-    }
-}
-
 // The passes of all records, or the first at fault by 3.
 pub(crate) fn load_passes(s: &[u8], n: usize) -> Loaded
     requires { ⌜ (length (now s) ≡ 12 * n) × (unreadable (readAll inPasses (now s)) ≡ none) ⌝ }
@@ -106,13 +95,15 @@ pub(crate) fn load_passes(s: &[u8], n: usize) -> Loaded
                 passes,
             };
         };
-        if bad_number(passes, r) {
+        if bad_number(&passes.present, r) {
             return Loaded {
                 fault: Found::At(i),
                 passes,
             };
         }
-        passes = with_record(passes, r);
+        if let PassRecord::P(p) = r {
+            passes = with_pass(passes, p);
+        }
         i += 1;
     }
     Loaded {

@@ -2,11 +2,12 @@
 -- Each record that is read is the next of the table's, and none is unreadable. Assumes nothing.
 use Prim.Native.Nat.{_≤_, _-_}
 use native.Mathlib.Omega.{arith}
-use mathlib.Core.Path.{_≡_, refl, _∙_, sym}
+use mathlib.Core.Path.{_≡_, refl, _∙_, sym, ap}
 use borrow.Author.Needs.{needs}
 use Rattle.laws.proofs.Walking.{Next, FaultFrom, fault-step}
 use Rattle.jobs.specs.Judge.{looseLink, fault5}
 use Rattle.jobs.specs.Call.{jobTable}
+use Rattle.jobs.specs.declared.Jobs.{Jobs}
 use Rattle.jobs.proofs.Records.{next-job, always-read, length-table, fault-found, fault-nothing}
 use Rattle.jobs.proofs.judge.first_loose.Statement.{statement}
 use Rattle.jobs.proofs.judge.first_loose.Tie as tie
@@ -27,10 +28,10 @@ next c =
 
 -- what is found of it is what 5 says of it
 judged : (c : tie.After-loose-link Inv-loop μ-loop)
-    → c .loose-link .result ≡ looseLink (jobTable (c .before .before .before .before .before .before .before .before .args .s .now)) (c .before .before .r .given .0 .0)
+    → c .loose-link .result ≡ looseLink (jobTable (c .before .before .before .before .before .before .before .before .before .before .args .s .now)) (c .before .before .before .before .r .given .0 .0)
 judged c =
-    let start = c .before .before .before .before .before .before .before .before in
-    c .loose-link .ensures (jobTable (start .args .s .now)) (start .pre .1 .0) (start .pre .1 .1)
+    let start = c .before .before .before .before .before .before .before .before .before .before in
+    c .loose-link .ensures (jobTable (start .args .s .now)) (start .pre .1 .0) (ap (λ (jobs : Jobs). jobs .present) (start .pre .1 .1))
 
 loop-holds : tie.Need-loop-holds Inv-loop μ-loop
 loop-holds c = (search needs, refl)
@@ -58,8 +59,8 @@ loose-link-requires c κs = search needs
 returns-2 : tie.Need-returns-2 Inv-loop μ-loop
 unfolding fault5
 returns-2 c =
-    let loop = c .before .before .before .before .before .before .before in
-    fault-found (λ before r. looseLink (jobTable (loop .before .before .args .s .now)) r) (jobTable (loop .before .before .args .s .now)) (loop .loop .i) (next (c .before .before .before))
+    let loop = c .before .before .before .before .before .before .before .before .before in
+    fault-found (λ before r. looseLink (jobTable (loop .before .before .args .s .now)) r) (jobTable (loop .before .before .args .s .now)) (loop .loop .i) (next (c .before .before .before .before .before))
     (sym (judged (c .before)) ∙ c .if1 .taken) (loop .loop .inv .1)
 
 add-i : tie.Need-add-i Inv-loop μ-loop
@@ -70,9 +71,9 @@ loop-less c = search needs
 
 loop-again : tie.Need-loop-again Inv-loop μ-loop
 loop-again c =
-    let loop = c .before .before .before .before .before .before .before in (
+    let loop = c .before .before .before .before .before .before .before .before .before in (
       search needs,
-      fault-step (λ before r. looseLink (jobTable (loop .before .before .args .s .now)) r) (jobTable (loop .before .before .args .s .now)) (loop .loop .i) (next (c .before .before .before))
+      fault-step (λ before r. looseLink (jobTable (loop .before .before .args .s .now)) r) (jobTable (loop .before .before .args .s .now)) (loop .loop .i) (next (c .before .before .before .before .before))
           (sym (judged (c .before)) ∙ c .if1 .left) (loop .loop .inv .1),
     )
 

@@ -1,12 +1,13 @@
 -- `passes::judge::first_loose` meets its contract. The loop's invariant: the first record at fault is that from place i on.
 -- Each record that is read is the next of the table's, and none is unreadable. Assumes nothing.
 use Prim.Native.Nat.{_≤_, _-_}
-use mathlib.Core.Path.{_≡_, refl, _∙_, sym}
+use mathlib.Core.Path.{_≡_, refl, _∙_, sym, ap}
 use native.Mathlib.Omega.{arith}
 use borrow.Author.Needs.{needs}
 use Rattle.laws.proofs.Walking.{Next, FaultFrom, fault-step}
 use Rattle.passes.specs.Judge.{looseFlow, fault5}
 use Rattle.passes.specs.Call.{passTable}
+use Rattle.passes.specs.declared.Passes.{Passes}
 use Rattle.records.proofs.Finding.{fault-found, fault-nothing}
 use Rattle.passes.proofs.Records.{next-pass, always-read, length-table}
 use Rattle.passes.proofs.judge.first_loose.Statement.{statement}
@@ -28,10 +29,10 @@ next c =
 
 -- what is found of it is what 5 says of it
 judged : (c : tie.After-loose-flow Inv-loop μ-loop)
-    → c .loose-flow .result ≡ looseFlow (passTable (c .before .before .before .before .before .before .before .before .args .s .now)) (c .before .before .r .given .0 .0)
+    → c .loose-flow .result ≡ looseFlow (passTable (c .before .before .before .before .before .before .before .before .before .before .args .s .now)) (c .before .before .before .before .r .given .0 .0)
 judged c =
-    let start = c .before .before .before .before .before .before .before .before in
-    c .loose-flow .ensures (passTable (start .args .s .now)) (start .pre .1 .0) (start .pre .1 .1)
+    let start = c .before .before .before .before .before .before .before .before .before .before in
+    c .loose-flow .ensures (passTable (start .args .s .now)) (start .pre .1 .0) (ap (λ (passes : Passes). passes .present) (start .pre .1 .1))
 
 loop-holds : tie.Need-loop-holds Inv-loop μ-loop
 loop-holds c = (search needs, refl)
@@ -59,8 +60,8 @@ loose-flow-requires c κs = search needs
 returns-2 : tie.Need-returns-2 Inv-loop μ-loop
 unfolding fault5
 returns-2 c =
-    let loop = c .before .before .before .before .before .before .before in
-    fault-found (λ before r. looseFlow (passTable (loop .before .before .args .s .now)) r) (passTable (loop .before .before .args .s .now)) (loop .loop .i) (next (c .before .before .before))
+    let loop = c .before .before .before .before .before .before .before .before .before in
+    fault-found (λ before r. looseFlow (passTable (loop .before .before .args .s .now)) r) (passTable (loop .before .before .args .s .now)) (loop .loop .i) (next (c .before .before .before .before .before))
     (sym (judged (c .before)) ∙ c .if1 .taken) (loop .loop .inv .1)
 
 add-i : tie.Need-add-i Inv-loop μ-loop
@@ -71,9 +72,9 @@ loop-less c = search needs
 
 loop-again : tie.Need-loop-again Inv-loop μ-loop
 loop-again c =
-    let loop = c .before .before .before .before .before .before .before in (
+    let loop = c .before .before .before .before .before .before .before .before .before in (
       search needs,
-      fault-step (λ before r. looseFlow (passTable (loop .before .before .args .s .now)) r) (passTable (loop .before .before .args .s .now)) (loop .loop .i) (next (c .before .before .before))
+      fault-step (λ before r. looseFlow (passTable (loop .before .before .args .s .now)) r) (passTable (loop .before .before .args .s .now)) (loop .loop .i) (next (c .before .before .before .before .before))
           (sym (judged (c .before)) ∙ c .if1 .left) (loop .loop .inv .1),
     )
 

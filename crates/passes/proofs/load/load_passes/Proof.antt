@@ -3,13 +3,17 @@
 use Prim.Native.Nat.{_≤_, _-_}
 use mathlib.Core.Path.{_≡_, refl, _∙_, sym, ap}
 use native.Mathlib.Omega.{arith}
+use mathlib.Core.List.{[], _∷_}
+use mathlib.Core.Logic.{⊎-elim}
 use borrow.Author.Needs.{needs}
 use Rattle.laws.proofs.Walking.{Next, behind, behind-next, FaultFrom, fault-step}
+use Rattle.records.specs.declared.PassRecord.{PassRecord}
 use Rattle.passes.specs.Judge.{badNumber, fault3}
 use Rattle.passes.specs.Call.{passTable}
 use Rattle.passes.specs.Arrays.{passesOf}
-use Rattle.passes.proofs.Arrays.{passes-passed}
-use Rattle.passes.proofs.Judging.{good-alone}
+use Rattle.passes.specs.declared.Passes.{Passes}
+use Rattle.passes.proofs.Arrays.{passes-flow, passes-passed}
+use Rattle.passes.proofs.Judging.{good-alone, good-number}
 use Rattle.records.proofs.Finding.{fault-found, fault-nothing, found-refutes}
 use Rattle.passes.proofs.Records.{next-pass, always-read, length-table}
 use Rattle.passes.proofs.load.load_passes.Statement.{statement}
@@ -31,10 +35,10 @@ next c =
 
 -- what is found of it is what 3 says of it
 judged : (c : tie.After-bad-number Inv-loop μ-loop)
-    → c .bad-number .result ≡ badNumber (behind (c .before .before .before .before .before .before .loop .i) (passTable (c .before .before .before .before .before .before .before .before .before .args .s .now))) (c .before .before .r .given .0 .0)
+    → c .bad-number .result ≡ badNumber (behind (c .before .before .before .before .before .before .before .before .loop .i) (passTable (c .before .before .before .before .before .before .before .before .before .before .before .args .s .now))) (c .before .before .before .before .r .given .0 .0)
 judged c =
-    let loop = c .before .before .before .before .before .before in
-    c .bad-number .ensures (behind (loop .loop .i) (passTable (loop .before .before .before .args .s .now))) (loop .loop .inv .2)
+    let loop = c .before .before .before .before .before .before .before .before in
+    c .bad-number .ensures (behind (loop .loop .i) (passTable (loop .before .before .before .args .s .now))) (ap (λ (passes : Passes). passes .present) (loop .loop .inv .2))
 
 no-passes-requires : tie.Need-no-passes-requires Inv-loop μ-loop
 no-passes-requires c κs = search needs
@@ -65,13 +69,21 @@ bad-number-requires c κs = search needs
 returns-2 : tie.Need-returns-2 Inv-loop μ-loop
 unfolding fault3
 returns-2 c =
-    let loop = c .before .before .before .before .before .before .before in
+    let loop = c .before .before .before .before .before .before .before .before .before in
     let table = passTable (loop .before .before .before .args .s .now) in
-    let here = fault-found badNumber table (loop .loop .i) (next (c .before .before .before)) (sym (judged (c .before)) ∙ c .if1 .taken) (loop .loop .inv .1) in
+    let here = fault-found badNumber table (loop .loop .i) (next (c .before .before .before .before .before)) (sym (judged (c .before)) ∙ c .if1 .taken) (loop .loop .inv .1) in
     (here, λ three. absurd (found-refutes (fault3 table) here three))
 
-with-record-requires : tie.Need-with-record-requires Inv-loop μ-loop
-with-record-requires c κs = good-alone _ (c .before .before .before .r .given .0 .0) (sym (judged (c .before)) ∙ c .if1 .left)
+enum-known-r-2 : tie.Need-enum-known-r-2 Inv-loop μ-loop
+enum-known-r-2 c = search needs
+
+with-pass-requires : tie.Need-with-pass-requires Inv-loop μ-loop
+with-pass-requires c κs =
+    good-number (c .before .r2 .given .0 .0)
+    (ap (badNumber []) (sym (c .before .r2 .given .1)) ∙ good-alone _ (c .before .before .before .before .before .before .before .before .r .given .0 .0) (sym (judged (c .before .before .before .before)) ∙ c .before .before .before .if1 .left))
+
+enum-told-2 : tie.Need-enum-told-2 Inv-loop μ-loop
+enum-told-2 c = search needs
 
 add-i : tie.Need-add-i Inv-loop μ-loop
 add-i c = search needs
@@ -81,12 +93,17 @@ loop-less c = search needs
 
 loop-again : tie.Need-loop-again Inv-loop μ-loop
 loop-again c =
-    let loop = c .before .before .before .before .before .before .before .before in
+    let here = next (c .before .before .before .before .before .before) in
+    let loop = c .before .before .before .before .before .before .before .before .before .before in
     let table = passTable (loop .before .before .before .args .s .now) in
-    let here = next (c .before .before .before .before) in (
+    let before = behind (loop .loop .i) table in (
       search needs,
       fault-step badNumber table (loop .loop .i) here (sym (judged (c .before .before)) ∙ c .before .if1 .left) (loop .loop .inv .1),
-      c .with-record .ensures (behind (loop .loop .i) table) (loop .loop .inv .2) ∙ ap passesOf (sym (behind-next table (loop .loop .i) here)),
+      ⊎-elim
+          (λ w. w .4 ∙ w .3 .ensures before (loop .loop .inv .2) ∙ ap (λ (r : PassRecord). passesOf (r ∷ before)) (sym (w .1 .given .1)))
+          (λ w. w .2 ∙ loop .loop .inv .2 ∙ sym (passes-flow _ before) ∙ ap (λ (r : PassRecord). passesOf (r ∷ before)) (sym (w .1 .given .1)))
+          (c .match2 .came)
+          ∙ ap passesOf (sym (behind-next table (loop .loop .i) here)),
     )
 
 returns-3 : tie.Need-returns-3 Inv-loop μ-loop
@@ -111,7 +128,9 @@ load-passes-spec =
     returns
     bad-number-requires
     returns-2
-    with-record-requires
+    enum-known-r-2
+    with-pass-requires
+    enum-told-2
     add-i
     loop-less
     loop-again
