@@ -28,7 +28,7 @@ use Rattle.normal.proofs.FormHeld.{below-48}
 use Rattle.normal.proofs.FormGiven.{links-given}
 use Rattle.normal.proofs.Answers.{jobs-refused, ring-number, starts-number, held-number}
 use Rattle.search.specs.declared.Found.{Found}
-use Rattle.search.specs.State.{numbersIn, linksInto, Answers}
+use Rattle.search.specs.State.{linksInto, Answers}
 use Rattle.search.specs.Call.{searched, scheduleNumber, scheduled}
 use Rattle.search.proofs.ByNumber.{numbers-in}
 use Rattle.search.proofs.Given.{first-length}
@@ -54,8 +54,7 @@ module _ (bytes : List ℕ) (budget : ℕ) (before : List ℕ) where
 
 -- the jobs that the code counts are the table's
 counted : {table : List JobRecord} {jobs : Jobs} {square : Square} → Holds table jobs square → length (presentIn jobs) ≡ length (numbers table)
-unfolding presentIn numbersIn
-counted {table} held = ap (λ (j : Jobs). length (numbersIn (j .present))) (held .jobs-held) ∙ ap length (numbers-in table)
+counted {table} held = ap (λ (j : Jobs). length (presentIn j)) (held .jobs-held) ∙ ap length (numbers-in table)
 
 -- where one of 1 to 5 is given, scheduling gives it
 pub jobs-scheduled : (bytes : List ℕ) (room number : ℕ) → (number ≡ 0 → ⊥) → jobsNumber bytes 0 ≡ number → scheduleNumber bytes room ≡ number
@@ -87,9 +86,9 @@ module _ {bytes : List ℕ} (formed : WellFormed bytes) where
 
 module _ {table : List JobRecord} {jobs : Jobs} {square : Square} (held : Holds table jobs square) where
   -- the normal form has as many jobs as were counted
-  pub form-counted : {tight : Jobs} → tight ≡ jobsOf (normalForm table) → length (numbersIn (tight .present)) ≡ length (presentIn jobs)
+  pub form-counted : {tight : Jobs} → tight ≡ jobsOf (normalForm table) → length (presentIn tight) ≡ length (presentIn jobs)
   form-counted e =
-      ap (λ (j : Jobs). length (numbersIn (j .present))) e
+      ap (λ (j : Jobs). length (presentIn j)) e
       ∙ ap length (numbers-in (normalForm table) ∙ normal-numbers (normalisable held))
       ∙ sym (counted held)
 
