@@ -86,6 +86,7 @@ pub record Given : Type 0 where
   pub limit : ℕ
   pub count : ℕ
 
+-- those jobs from their parts
 abbrev pub given : List ℕ → List ℕ → List ℕ → List (List ℕ) → ℕ → ℕ → Given
 given c r d i limit n = record { cost = c; release = r; deadline = d; into = i; limit = limit; count = n }
 
@@ -126,6 +127,7 @@ pub record Node : Type 0 where
   pub state : State
   pub depth : ℕ
 
+-- a node from its parts
 abbrev pub node : State → ℕ → Node
 node s d = record { state = s; depth = d }
 
@@ -143,10 +145,11 @@ unfoldable pub statesFrom : Given → ℕ → State → ℕ → List Node
 statesFrom g zero s d = node s d ∷ []
 statesFrom g (suc n) s d = node s d ∷ tryEachAt g (λ t. statesFrom g n t (d + 1)) s d (count 0 (g .limit))
 
--- what opening a state looks through, and what trying its next job from job k on looks through
+-- what opening a state looks through
 unfoldable pub opened : Given → State → ℕ → List Node
 opened g s d = statesFrom g (g .count - d) s d
 
+-- what trying the jobs from k on after a state looks through
 unfoldable pub tried : Given → State → ℕ → ℕ → List Node
 tried g s d k = tryEachAt g (λ t. opened g t (d + 1)) s d (count k (g .limit - k))
 
@@ -162,10 +165,11 @@ walk g budget (x ∷ xs) n =
       ]
     ]
 
--- what opening a state comes to, n being opened before it, and what trying its next job from job k on comes to
+-- what opening a state comes to, n being opened before it
 abbrev pub opening : Given → ℕ → State → ℕ → ℕ → Outcome
 opening g budget s d n = walk g budget (opened g s d) n
 
+-- what trying its next job comes to, from job k on
 abbrev pub trying : Given → ℕ → State → ℕ → ℕ → ℕ → Outcome
 trying g budget s d k n = walk g budget (tried g s d k) n
 
