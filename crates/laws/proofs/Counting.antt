@@ -1,8 +1,8 @@
 -- A list of numbers from m up to e, as a loop that counts goes through it: the first of them, or none.
-use Prim.Native.Nat.{ℕ, zero, suc, ◌+◌, ◌-◌, ◌<◌, ◌≤◌}
+use Prim.Native.Nat.{ℕ, suc, ◌+◌, ◌-◌, ◌<◌, ◌≤◌}
 use native.Mathlib.Omega.{arith}
-use mathlib.Core.Path.{◌≡◌, refl}
-use mathlib.Core.List.{List, [], ◌∷◌}
+use mathlib.Core.Path.{◌≡◌}
+use mathlib.Core.List.{[], ◌∷◌}
 use Rattle.laws.specs.Lists.{count}
 
 -- below the end, the numbers from m are m and those from m + 1

@@ -57,8 +57,11 @@ same_test false false h = refl
 module _ {A : Type 0} where
   -- each element has the property, if every element has it
   pub every_member : (P : A → Type 0) {xs : List A} → Every P xs → (x : A) → Memᴰ x xs → P x
-  every_member P h x (Memᴰ.head e) = rw e h.0
-  every_member P h x (Memᴰ.tail m) = every_member P h.1 x m
+  every_member P h x m = step m h
+    where
+      step : {ys : List A} → Memᴰ x ys → Every P ys → P x
+      step (Memᴰ.head e) here = rw e here.0
+      step (Memᴰ.tail n) here = step n here.1
 
   -- every element has the property, if each element has it
   pub member_every : (P : A → Type 0) (xs : List A) → ((x : A) → Memᴰ x xs → P x) → Every P xs

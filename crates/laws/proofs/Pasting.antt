@@ -1,5 +1,5 @@
 -- A loop that copies a list into another, and a run of pieces that are written one behind the other.
-use Prim.Native.Nat.{ℕ, suc, ◌+◌, ◌<◌, ◌≤◌}
+use Prim.Native.Nat.{ℕ, ◌+◌, ◌<◌}
 use mathlib.Core.Path.{◌≡◌, ◌∙◌, sym, ap}
 use mathlib.Core.List.{List}
 use lib.ListN.{length, get_or, set}

@@ -1,13 +1,13 @@
 -- How long a list can be: rising numbers within a span are at most as many as the span is long, and lists that are joined are as long as all of them.
-use Prim.Native.Nat.{ℕ, zero, suc, ◌+◌, ◌-◌, ◌*◌, ◌<◌, ◌≤◌}
+use Prim.Native.Nat.{ℕ, ◌+◌, ◌-◌, ◌*◌, ◌<◌, ◌≤◌}
 use native.Mathlib.Nat.{mul-suc}
 use native.Mathlib.Omega.{arith}
 use mathlib.Core.Path.{◌≡◌, refl, ap}
 use mathlib.Core.Bool.{Bool, true, false}
 use mathlib.Core.List.{List, [], ◌∷◌, ◌++◌, map, Memᴰ}
-use lib.ListN.{length, length-append, length-map}
+use lib.ListN.{length, length-append}
 use Rattle.laws.specs.Lists.{only, keep, Every, flat}
-use Rattle.laws.proofs.Members.{every_member, member_every, Rising}
+use Rattle.laws.proofs.Members.{every_member, Rising}
 
 -- rising numbers from m up to but without e are at most e - m
 pub rising_length : (m e : ℕ) (xs : List ℕ) → Rising xs → ((x : ℕ) → Memᴰ x xs → (m ≤ x) × (x < e)) → length xs ≤ e - m
