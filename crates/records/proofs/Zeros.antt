@@ -2,10 +2,9 @@
 use Prim.Native.Nat.{ℕ, ◌+◌, ◌-◌, ◌<◌, ◌≤◌}
 use mathlib.Core.Path.{◌≡◌, ◌∙◌, sym, ap}
 use mathlib.Core.Bool.{Bool, true, false, ◌&&◌}
-use mathlib.Core.List.{List}
 use lib.Dec.{eqb}
 use borrow.Author.Tests.{eq-eqb, ne_eqb}
-use Rattle.laws.specs.Lists.{all, count}
+use Rattle.laws.specs.Lists.{all}
 use Rattle.laws.proofs.Counting.{count_more, count_end}
 use Rattle.records.specs.Bytes.{zeros}
 

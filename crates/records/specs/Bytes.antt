@@ -1,5 +1,5 @@
 -- Bytes and 16-bit numbers, and the bytes of one record of a table.
-use Rattle.std.specs.Prelude.{ℕ, zero, suc, ◌+◌, ◌*◌, ◌/◌, ◌%◌, ◌<◌, Bool, true, false, ◌&&◌, List, [], ◌∷◌, get_or, eqb}
+use Rattle.std.specs.Prelude.{ℕ, ◌+◌, ◌*◌, ◌/◌, ◌%◌, ◌<◌, Bool, List, [], ◌∷◌, get_or, eqb}
 use Rattle.laws.specs.Lists.{Every, all, count}
 
 -- each number of the list is a byte

@@ -1,5 +1,5 @@
 -- The five records of 01's table: what reading twelve bytes finds, and the twelve bytes of a record. `b k` is byte k of the record.
-use Rattle.std.specs.Prelude.{ℕ, ◌<◌, Bool, true, false, cond, ◌&&◌, List, [], ◌∷◌, ◌++◌, eqb, replicate}
+use Rattle.std.specs.Prelude.{ℕ, ◌<◌, Bool, cond, ◌&&◌, List, ◌∷◌, ◌++◌, eqb, replicate}
 use Rattle.std.proofs.Math.Option.{Option, none, some}
 use Rattle.records.specs.Bytes.{word, pair, zeros}
 use Rattle.records.specs.declared.Pass.{Pass}
