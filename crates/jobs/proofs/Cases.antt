@@ -1,5 +1,4 @@
 -- The cases of repeated links, by computation: what this crate's must-fail edit of the definitions breaks. Assumes nothing.
-use Prim.Native.Nat.{ℕ}
 use mathlib.Core.Path.{◌≡◌, refl}
 use Rattle.cases.specs.Further.{strong_first, strong_last}
 use Rattle.jobs.specs.Jobs.{strongest}

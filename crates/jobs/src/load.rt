@@ -16,7 +16,7 @@ use records::table::Found;
 use records::{Job, JobRead, JobRecord, Link};
 
 // What loading the jobs answers: the first record at fault by 3, if there is one, and the jobs of the records before it.
-#[derive(Drop)]
+#[derive(Clone, Copy)]
 pub(crate) struct Loaded {
     pub(crate) fault: Found,
     pub(crate) jobs: Jobs,

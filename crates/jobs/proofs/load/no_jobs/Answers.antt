@@ -2,12 +2,8 @@
 use mathlib.Core.Path.{refl}
 use Rattle.jobs.specs.Jobs.{of_job}
 use Rattle.jobs.specs.Arrays.{jobs_of}
-use Rattle.jobs.proofs.load.no_jobs.Statement.{statement}
-use Rattle.jobs.proofs.load.no_jobs.Tie as tie
+use Rattle.jobs.proofs.load.no_jobs.Goals as goal
 
-returns : tie.Need-returns
+pub returns : goal.returns
 unfolding jobs_of of_job
 returns c = refl
-
-pub no-jobs-spec : {M : Type 1} → statement M
-no-jobs-spec = tie.close (tie.spec returns)
