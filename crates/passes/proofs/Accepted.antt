@@ -1,7 +1,7 @@
 -- What the functions that expand an accepted table rest on: what its passes, its cycle and each of its records are, and that its links are those of each record.
 -- All of it is the law of the table at hand, told of the passes and the cycle that were handed on.
 use Prim.Native.Nat.{ℕ, ◌*◌, ◌/◌, ◌≤◌}
-use mathlib.Core.Path.{◌≡◌, sym, ap, ◌∙◌}
+use mathlib.Core.Path.{◌≡◌, ap, ◌∙◌}
 use mathlib.Core.List.{List, Memᴰ}
 use mathlib.Core.Option.{none}
 use lib.ListN.{length}
@@ -11,7 +11,7 @@ use Rattle.records.specs.Table.{read_all, unreadable}
 use Rattle.records.specs.declared.PassRecord.{PassRecord}
 use Rattle.records.proofs.Finding.{whole_records}
 use Rattle.passes.specs.declared.Passes.{Passes}
-use Rattle.passes.specs.Expand.{passes_in_order, flows_of, flow_links, job_count, jobs_from}
+use Rattle.passes.specs.Expand.{passes_in_order, flows_of, flow_links, job_count}
 use Rattle.passes.specs.Call.{pass_table}
 use Rattle.passes.specs.Arrays.{in_order, AllTimely, Accepted}
 use Rattle.passes.specs.Ends.{record_links, FlowFits}

@@ -1,7 +1,7 @@
 -- A link of an accepted table joins two different jobs of it: the jobs of two passes do not overlap in number, and those of each are among all jobs.
 use Prim.Native.Nat.{ℕ, ◌+◌, ◌-◌, ◌/◌, ◌<◌, ◌≤◌}
 use native.Mathlib.Omega.{arith}
-use mathlib.Core.Path.{◌≡◌, refl, sym, ap, ◌∙◌}
+use mathlib.Core.Path.{◌≡◌, refl, ap}
 use mathlib.Core.Bool.{Bool, true, false}
 use mathlib.Core.List.{List, Memᴰ}
 use lib.Dec.{ltb}
@@ -16,7 +16,7 @@ use Rattle.passes.proofs.Sound.{Sound, flows_member, flow_known, number_limits}
 use Rattle.passes.proofs.First.{first_order, first_within}
 use Rattle.passes.proofs.Held.{held_order}
 use Rattle.passes.proofs.Flows.{held_instances}
-use Rattle.passes.proofs.Exactly.{LinkedBy, links_exact}
+use Rattle.passes.proofs.Exactly.{links_exact}
 
 module _ (table : List PassRecord) (sound : Sound table) where
   -- the arrays' passes give the same first jobs

@@ -3,11 +3,10 @@
 use Prim.Native.Nat.{ℕ, ◌+◌, ◌/◌, ◌%◌, ◌<◌, ◌≤◌, ◌∣◌, min}
 use native.Mathlib.Nat.{div-le_self, dvd_of_mod-eq-zero, mod-eq-zero_of_dvd}
 use native.Mathlib.Omega.{arith}
-use mathlib.Core.Path.{◌≡◌, refl, sym, ap, ◌∙◌}
+use mathlib.Core.Path.{◌≡◌, refl, ap, ◌∙◌}
 use mathlib.Core.Bool.{true, false}
 use mathlib.Core.List.{[], ◌∷◌}
 use lib.ListN.{get_or}
-use Rattle.laws.specs.Lists.{Every}
 use Rattle.laws.proofs.Members.{every_member, flat_member, only_member, count_member}
 use Rattle.passes.specs.declared.Passes.{Passes}
 use Rattle.passes.specs.Expand.{lcm, cycle_from, job_count, instances}

@@ -5,22 +5,20 @@ use Prim.Native.Nat.{ℕ, zero, suc, ◌+◌, ◌-◌, ◌*◌, ◌/◌, ◌<◌
 use native.Mathlib.Nat.{zero-add, add-zero, div-mul-le_self, mul-le-mul_right, le_of_lt, le_refl}
 use native.Mathlib.Omega.{arith}
 use mathlib.Core.Path.{◌≡◌, refl, sym, ap, ap₂, ◌∙◌}
-use mathlib.Core.Bool.{true, false, cond}
+use mathlib.Core.Bool.{cond}
 use mathlib.Core.Logic.{◌↔◌, ◌⊎◌, inl, inr}
 use mathlib.Core.List.Memᴰ
-use mathlib.Core.List.{List, [], ◌∷◌, ◌++◌, map, map-append, map-map, Memᴰ}
+use mathlib.Core.List.{List, [], ◌∷◌, ◌++◌, map, map-append, Memᴰ}
 use lib.Dec.{eqb, ltb}
-use lib.ListN.{length}
 use borrow.Author.Tests.{eqb-true, eq-eqb, lt-ltb, le-ltb}
 use Rattle.laws.specs.Lists.{count, flat, Every, any, keep}
-use Rattle.laws.proofs.Members.{every_member, member_every, count_member, flat_member, only_member, Rising, count_rising, keep_rising}
+use Rattle.laws.proofs.Members.{every_member, count_member, flat_member, only_member, Rising, count_rising, keep_rising}
 use Rattle.records.specs.Record.{link}
 use Rattle.records.specs.declared.Pass.{Pass}
 use Rattle.records.specs.declared.Flow.{Flow}
 use Rattle.records.specs.declared.Job.{Job}
 use Rattle.records.specs.declared.Link.{Link}
 use Rattle.records.specs.declared.PassRecord.{PassRecord}
-use Rattle.records.specs.declared.PassRecord.TheVariants.{P, F}
 use Rattle.passes.specs.Judge.{is_pass}
 use Rattle.passes.specs.Expand.{pass_at, passes_in_order, flows_of, cycle_of, instances, instance_of, jobs_from, job_count, first_job, pair_links, links_between, flow_links}
 use Rattle.passes.proofs.Sound.{Sound, order_limits}

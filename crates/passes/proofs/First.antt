@@ -1,16 +1,16 @@
 -- The number of a pass's first job, counted over the pass numbers below its own: each of them counts with its instances, and from its own number on none does.
-use Prim.Native.Nat.{ℕ, zero, suc, ◌+◌, ◌-◌, ◌*◌, ◌<◌, ◌≤◌}
+use Prim.Native.Nat.{ℕ, zero, suc, ◌+◌, ◌-◌, ◌<◌, ◌≤◌}
 use native.Mathlib.Omega.{arith}
 use mathlib.Core.Path.{◌≡◌, refl, sym, ap, ◌∙◌}
-use mathlib.Core.Bool.{Bool, true, false, cond}
-use mathlib.Core.List.{List, [], ◌∷◌, ◌++◌}
+use mathlib.Core.Bool.{Bool, true, false}
+use mathlib.Core.List.{List, ◌++◌}
 use lib.Dec.{ltb}
 use lib.ListN.{get_or}
 use borrow.Author.Tests.{lt-ltb, le-ltb, ltb-true, ltb-false}
 use Rattle.laws.specs.Lists.{count, only, flat}
 use Rattle.records.specs.declared.Pass.{Pass}
 use Rattle.passes.specs.declared.Passes.{Passes}
-use Rattle.passes.specs.Expand.{instances, job_count, first_job}
+use Rattle.passes.specs.Expand.{job_count, first_job}
 use Rattle.passes.specs.Arrays.{pass_in, passes_at, in_order}
 use Rattle.passes.proofs.Numbers.{passes_from, from_more, first_job_append, job_count_append}
 

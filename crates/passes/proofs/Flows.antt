@@ -1,7 +1,7 @@
 -- The flows of a table and their links, record by record: a pass gives none, and a flow gives itself and its links.
 -- Where none of 1 to 6 holds, a flow joins two passes of the table whose periods divide the cycle and whose jobs are among the table's, so that its links are found as `matched_links` finds them.
-use Prim.Native.Nat.{ℕ, zero, suc, ◌+◌, ◌-◌, ◌*◌, ◌/◌, ◌<◌, ◌≤◌, ◌∣◌}
-use native.Mathlib.Nat.{zero-add, div-mul-le_self, div-lt_iff_lt-mul, div-mul_cancel}
+use Prim.Native.Nat.{ℕ, ◌+◌, ◌-◌, ◌*◌, ◌/◌, ◌<◌, ◌≤◌, ◌∣◌}
+use native.Mathlib.Nat.{div-mul-le_self, div-lt_iff_lt-mul, div-mul_cancel}
 use native.Mathlib.Omega.{arith}
 use mathlib.Core.Path.{◌≡◌, refl, sym, ap, ap₂, ◌∙◌}
 use mathlib.Core.Bool.{Bool, true, false}
@@ -9,13 +9,12 @@ use mathlib.Core.List.{List, [], ◌∷◌, ◌++◌, Memᴰ}
 use lib.Dec.{ltb}
 use lib.ListN.{get_or}
 use borrow.Author.Tests.{ltb-true, ltb-false}
-use Rattle.laws.specs.Lists.{count, flat, any}
+use Rattle.laws.specs.Lists.{flat, any}
 use Rattle.records.specs.declared.Flow.{Flow}
-use Rattle.records.specs.declared.Link.{Link}
 use Rattle.records.specs.declared.PassRecord.{PassRecord}
 use Rattle.records.specs.declared.PassRecord.TheVariants.{P, F}
 use Rattle.passes.specs.Judge.{is_pass}
-use Rattle.passes.specs.Expand.{pass_at, passes_in_order, flows_of, cycle_of, instances, first_job, job_count, flow_links, links_between}
+use Rattle.passes.specs.Expand.{pass_at, passes_in_order, flows_of, cycle_of, instances, first_job, job_count, flow_links}
 use Rattle.passes.specs.Arrays.{passes_of, pass_in, passes_at, in_order}
 use Rattle.passes.specs.Ends.{ends_of, matches, matched, matched_links, record_links, EndsFit, FlowFits}
 use Rattle.passes.proofs.Sound.{Sound, member_order, number_limits, flow_known}
@@ -24,6 +23,10 @@ use Rattle.passes.proofs.Held.{held_mark, held_pass, held_order}
 use Rattle.passes.proofs.Ceiling.{at_present}
 use Rattle.passes.proofs.First.{first_order, first_within}
 use Rattle.passes.proofs.Pairs.{links_matched, starts_before}
+
+-- the flow of a record, if it is one
+abbrev pub flow_in : PassRecord → List Flow
+flow_in r = flows_of (r ∷ [])
 
 -- the flows of a table are those of each record
 pub flows_each : (table : List PassRecord) → flows_of table ≡ flat (λ r. flows_of (r ∷ [])) table

@@ -1,9 +1,9 @@
 -- The cycle is the least common multiple of all periods: each period divides it, and it divides whatever all of them divide, so that it is the least such number above 0.
 -- By induction on the passes, each of which joins the cycle by the law of two numbers.
-use Prim.Native.Nat.{ℕ, ◌+◌, ◌<◌, ◌≤◌, ◌∣◌}
+use Prim.Native.Nat.{ℕ, ◌<◌, ◌≤◌, ◌∣◌}
 use native.Mathlib.Nat.{dvd_refl, dvd_trans, le_of_dvd, one-dvd}
 use native.Mathlib.Omega.{arith}
-use mathlib.Core.Path.{◌≡◌, refl, sym, ap, ◌∙◌}
+use mathlib.Core.Path.{◌≡◌, refl}
 use mathlib.Core.Logic.{◌⊎◌, inl, inr}
 use mathlib.Core.List.Memᴰ
 use mathlib.Core.List.{List, [], ◌∷◌, Memᴰ}

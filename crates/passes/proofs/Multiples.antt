@@ -1,9 +1,9 @@
 -- The least common multiple: `lcm a b` is a multiple of both numbers, and divides every common multiple of them.
 -- The multiples m, m + a, .. up to b·a are tried in turn, and b divides the last one; a common multiple that was not passed is not passed by the next step, as it is a multiple of a too.
 use Prim.Native.Nat.{ℕ, zero, suc, ◌+◌, ◌-◌, ◌*◌, ◌%◌, ◌<◌, ◌≤◌, ◌∣◌}
-use native.Mathlib.Nat.{zero-mul, suc-mul, one-mul, dvd_refl, dvd-add, dvd-sub, dvd-mul_right, dvd-mod_iff, dvd_antisymm, dvd_of_mod-eq-zero, mod-eq-zero_of_dvd, mod-lt, le_of_dvd}
+use native.Mathlib.Nat.{zero-mul, suc-mul, dvd_refl, dvd-add, dvd-sub, dvd-mul_right, dvd-mod_iff, dvd_antisymm, dvd_of_mod-eq-zero, mod-eq-zero_of_dvd, mod-lt, le_of_dvd}
 use native.Mathlib.Omega.{arith}
-use mathlib.Core.Path.{◌≡◌, refl, sym, ap, ◌∙◌}
+use mathlib.Core.Path.{◌≡◌, refl, ap, ◌∙◌}
 use mathlib.Core.Bool.{Bool, true, false}
 use lib.Dec.{eqb}
 use borrow.Author.Tests.{eqb-true, eqb-false}

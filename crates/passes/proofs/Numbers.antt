@@ -4,9 +4,7 @@ use Prim.Native.Nat.{ℕ, ◌+◌, ◌-◌, ◌<◌, ◌≤◌}
 use native.Mathlib.Nat.{zero-add, add_assoc}
 use native.Mathlib.Omega.{arith}
 use mathlib.Core.Path.{◌≡◌, refl, sym, ap, ◌∙◌}
-use mathlib.Core.Bool.{cond}
 use mathlib.Core.List.{List, [], ◌∷◌, ◌++◌, map, append_assoc}
-use lib.Dec.{ltb}
 use Rattle.laws.specs.Lists.{count, flat}
 use Rattle.laws.proofs.Counting.{count_more, count_end}
 use Rattle.records.specs.declared.Pass.{Pass}

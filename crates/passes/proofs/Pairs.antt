@@ -9,11 +9,10 @@ use mathlib.Core.List.{List, [], ◌∷◌, ◌++◌, Memᴰ}
 use lib.Dec.{eqb}
 use borrow.Author.Tests.{eqb-true, eqb-false, eq-eqb, ne_eqb}
 use Rattle.laws.specs.Lists.{count, only, flat}
-use Rattle.laws.proofs.Members.{count_member, flat_same, not_true_false, same_test}
+use Rattle.laws.proofs.Members.{count_member, flat_same, same_test}
 use Rattle.records.specs.Record.{link}
 use Rattle.records.specs.declared.Pass.{Pass}
 use Rattle.records.specs.declared.Flow.{Flow}
-use Rattle.records.specs.declared.Link.{Link}
 use Rattle.passes.specs.Expand.{instances, first_job, pair_links, links_between}
 
 module _ {A : Type 0} (h : ℕ → A) where

@@ -3,14 +3,12 @@
 use Prim.Native.Nat.{ℕ, ◌+◌, ◌-◌, ◌*◌, ◌/◌, ◌%◌, ◌<◌, ◌≤◌}
 use native.Mathlib.Nat.{div-add-mod', lt_of_mul-lt-mul_right, mul-lt-mul_of_pos_right, div-lt_iff_lt-mul, div-mul_cancel}
 use native.Mathlib.Omega.{arith}
-use mathlib.Core.Path.{◌≡◌, refl, sym, ap, ◌∙◌}
-use mathlib.Core.Bool.{Bool, true, false}
+use mathlib.Core.Path.{◌≡◌, sym, ap, ◌∙◌}
 use mathlib.Core.List.Memᴰ
-use mathlib.Core.List.{List, [], ◌∷◌, ◌++◌, map, Memᴰ}
-use lib.Dec.{ltb}
+use mathlib.Core.List.{List, map, Memᴰ}
 use lib.ListN.{length, length-append, length-map}
-use borrow.Author.Tests.{eqb-true, ltb-true, ltb-false}
-use Rattle.laws.specs.Lists.{count, only, keep, any, flat}
+use borrow.Author.Tests.{eqb-true}
+use Rattle.laws.specs.Lists.{count, keep, flat}
 use Rattle.laws.proofs.Members.{keep_member, count_member, count_rising, keep_rising}
 use Rattle.laws.proofs.Sizes.{rising_length, map_rising, flat_length, map_keep}
 use Rattle.records.specs.Record.{link}
@@ -19,14 +17,13 @@ use Rattle.records.specs.declared.PassRecord.{PassRecord}
 use Rattle.records.specs.declared.PassRecord.TheVariants.{F}
 use Rattle.records.specs.declared.JobRecord.TheVariants.{J, L}
 use Rattle.passes.specs.declared.expand.Ends.{Ends}
-use Rattle.passes.specs.Judge.{is_pass}
 use Rattle.passes.specs.Expand.{pass_at, passes_in_order, flows_of, cycle_of, instances, job_count, jobs_from, flow_links, expanded}
 use Rattle.passes.specs.Call.{pass_table, passes_number}
 use Rattle.passes.specs.Arrays.{passes_of}
 use Rattle.passes.specs.Ends.{ends_of, matches, matched, matched_links}
 use Rattle.passes.proofs.Sound.{Sound, flows_member, flow_known, number_limits}
 use Rattle.passes.proofs.Instances.{length_jobs}
-use Rattle.passes.proofs.Judging.{Within, accepted}
+use Rattle.passes.proofs.Judging.{accepted}
 use Rattle.passes.proofs.Flows.{held_period, held_instances, number_divides, flow_matched, instances_share}
 use Rattle.passes.proofs.Pairs.{starts_before}
 

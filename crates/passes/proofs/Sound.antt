@@ -1,13 +1,13 @@
 -- Laws of a pass table that 3, 4 and 5 do not refuse: each pass number is given once and is below 24, so that what is looked up by number is what the pass's own record says;
 -- a pass has a cost, a period and a window within it; and a flow joins two different passes of the table.
 -- No first record at fault means that no record is; the rest is by induction on the table.
-use Prim.Native.Nat.{ℕ, suc, ◌+◌, ◌<◌, ◌≤◌}
+use Prim.Native.Nat.{ℕ, ◌+◌, ◌<◌, ◌≤◌}
 use native.Mathlib.Omega.{arith}
 use mathlib.Core.Path.{◌≡◌, refl, sym, ap, ◌∙◌}
-use mathlib.Core.Bool.{Bool, true, false, cond, not, ◌||◌}
+use mathlib.Core.Bool.{true, false, cond, not, ◌||◌}
 use mathlib.Core.Logic.{◌↔◌, ◌⊎◌, inl, inr}
 use mathlib.Core.List.Memᴰ
-use mathlib.Core.List.{List, [], ◌∷◌, map, Memᴰ}
+use mathlib.Core.List.{List, [], ◌∷◌, Memᴰ}
 use mathlib.Core.Option.{none}
 use borrow.Author.Tests.{eqb-true, eqb-false, ltb-false, eq-eqb, not-false}
 use lib.Dec.{eqb, ltb}

@@ -17,7 +17,7 @@ use records::write::{write_job, write_link};
 use records::{Flow, Job, Link, Pass, PassRead, PassRecord};
 
 // What the links of a flow are made of: its source's and its target's first job and period, and how many instances the source has.
-#[derive(Drop)]
+#[derive(Clone, Copy)]
 pub struct Ends {
     pub from: usize,
     pub to: usize,

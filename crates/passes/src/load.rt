@@ -15,7 +15,7 @@ use records::table::Found;
 use records::{Pass, PassRead, PassRecord};
 
 // What loading the passes answers: the first record at fault by 3, if there is one, and the passes of the records before it.
-#[derive(Drop)]
+#[derive(Clone, Copy)]
 pub struct Loaded {
     pub fault: Found,
     pub passes: Passes,
