@@ -20,7 +20,7 @@ use Rattle.jobs.specs.Jobs.{numbers, cost, release, deadline, strongest}
 use Rattle.jobs.specs.Arrays.{jobs_of}
 use Rattle.jobs.proofs.Sound.{numbers_member, strongest_bounds, strongest_attained}
 use Rattle.normal.specs.declared.Windows.{Windows}
-use Rattle.normal.specs.Gaps.{Square, cell, gaps}
+use Rattle.normal.specs.Gaps.{Square, cell}
 use Rattle.normal.specs.Windows.{earliest_of, latest_of, windows}
 use Rattle.normal.specs.Normal.{normal_form}
 use Rattle.normal.specs.Arrays.{Holds}

@@ -15,7 +15,7 @@ use Rattle.records.specs.declared.JobRecord.{JobRecord}
 use Rattle.records.specs.declared.JobRecord.TheVariants.{J, L}
 use Rattle.jobs.specs.declared.Jobs.{Jobs}
 use Rattle.jobs.specs.Judge.{is_job}
-use Rattle.jobs.specs.Jobs.{numbers, of_job, cost, release, deadline}
+use Rattle.jobs.specs.Jobs.{numbers, of_job, cost, deadline}
 use Rattle.jobs.proofs.Sound.{numbers_member, deadline_limit}
 use Rattle.normal.specs.Gaps.{Square, cell}
 use Rattle.normal.specs.Windows.{earliest_of}

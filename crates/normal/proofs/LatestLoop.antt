@@ -7,7 +7,6 @@ use mathlib.Core.List.{List, map}
 use lib.ListN.{get_or}
 use Rattle.records.specs.declared.JobRecord.{JobRecord}
 use Rattle.jobs.specs.declared.Jobs.{Jobs}
-use Rattle.jobs.specs.Jobs.{cost, deadline}
 use Rattle.jobs.specs.Arrays.{jobs_of}
 use Rattle.normal.specs.Gaps.{Square, cell}
 use Rattle.normal.specs.Windows.{before, smallest, last_start, latest_of}

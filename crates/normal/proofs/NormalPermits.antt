@@ -13,7 +13,6 @@ use Rattle.records.specs.Record.{link}
 use Rattle.records.specs.declared.Link.{Link}
 use Rattle.records.specs.declared.JobRecord.{JobRecord}
 use Rattle.records.specs.declared.JobRecord.TheVariants.{L}
-use Rattle.jobs.specs.Judge.{Sound}
 use Rattle.jobs.specs.Jobs.{numbers, cost}
 use Rattle.jobs.specs.Starts.{Permitted, Ring, SameJobs, SameStarts}
 use Rattle.jobs.proofs.Sound.{link_known, cost_by_number, PermittedByNumber, permitted_by_number}

@@ -1,6 +1,6 @@
 -- "Every normal form is itself a job table within the limits": with the same job numbers and costs, the windows in place of releases and deadlines, and fields that fit their bytes.
 -- A gap is at most the time between an earliest start and a deadline, which bounds latencies; a job with a gap to itself would start after itself.
-use Prim.Native.Nat.{ℕ, ◌+◌, ◌-◌, ◌<◌, ◌≤◌}
+use Prim.Native.Nat.{ℕ, ◌+◌, ◌<◌, ◌≤◌}
 use native.Mathlib.Omega.{arith}
 use mathlib.Core.Path.{◌≡◌, refl, sym, ap, ◌∙◌}
 use mathlib.Core.List.Memᴰ

@@ -109,5 +109,6 @@ module _ (n : ℕ) where
   -- and is closed at each of the jobs
   pub rounds_close : (ks : List ℕ) (square : Square) → Wide n square → NoRing ks square → (m : ℕ) → Memᴰ m ks → Closed (cell (rounds ks square)) m
   unfolding rounds
+  rounds_close [] square wide none m h = elim h [ ]
   rounds_close (k ∷ ks) square wide none m (Memᴰ.head e) = rounds_stay ks (round k square) (round_wide k square wide) (λ k h. none k (Memᴰ.tail h)) m (rw e (closes k _ _ (round_passes k square wide) (none_before k ks square wide none)))
   rounds_close (k ∷ ks) square wide none m (Memᴰ.tail h) = rounds_close ks (round k square) (round_wide k square wide) (λ k h. none k (Memᴰ.tail h)) m h

@@ -1,6 +1,6 @@
 -- "The normaliser works out the longest gap between every two jobs": a square of gaps by job number, 48 by 48.
 -- A link weighs its from job's cost and its latency, at least 1, so that a cell of 0 says that no chain leads from i to j.
-use Rattle.std.specs.Prelude.{ℕ, zero, suc, ◌+◌, max, Bool, true, false, not, List, [], ◌∷◌, map, get_or, eqb}
+use Rattle.std.specs.Prelude.{ℕ, zero, suc, ◌+◌, max, Bool, not, List, [], ◌∷◌, map, get_or, eqb}
 use Rattle.laws.specs.Lists.{count, any}
 use Rattle.records.specs.declared.JobRecord.{JobRecord}
 use Rattle.jobs.specs.Jobs.{numbers, cost, strongest}

@@ -1,5 +1,5 @@
 -- The normal form, as records.
-use Rattle.std.specs.Prelude.{ℕ, zero, suc, ◌+◌, ◌-◌, Bool, List, [], ◌∷◌, ◌++◌, map, get_or, ltb}
+use Rattle.std.specs.Prelude.{ℕ, zero, suc, ◌+◌, ◌-◌, List, [], ◌++◌, map, get_or, ltb}
 use Rattle.laws.specs.Lists.{only, flat}
 use Rattle.records.specs.Record.{job, link}
 use Rattle.records.specs.declared.Job.{Job}
