@@ -7,7 +7,6 @@ use mathlib.Core.Bool.{Bool, true, false, cond}
 use mathlib.Core.List.{List, [], ◌∷◌, ◌++◌}
 use lib.Dec.{eqb}
 use borrow.Author.Tests.{eq-eqb, ne_eqb}
-use Rattle.laws.specs.Lists.{count}
 use Rattle.laws.proofs.Counting.{count_more, count_end}
 use Rattle.records.specs.Outcome.{Outcome, done, refused, overwrite}
 use Rattle.search.specs.declared.State.{State}

@@ -1,5 +1,5 @@
 -- What scheduling a table comes to: "Scheduling gives 0 to 5 and 7 to 11".
-use Rattle.std.specs.Prelude.{ℕ, ◌*◌, Bool, true, false, List, reverse, length, ltb}
+use Rattle.std.specs.Prelude.{ℕ, ◌*◌, true, false, List, reverse, length, ltb}
 use Rattle.std.proofs.Math.Option.{Option, none, some}
 use Rattle.records.specs.Record.{slot_bytes}
 use Rattle.records.specs.Table.{encode}

@@ -1,5 +1,5 @@
 -- When a sequence is live.
-use Rattle.std.specs.Prelude.{ℕ, ◌+◌, max, Bool, true, false, not, ◌&&◌, List, [], ◌∷◌, map, leb}
+use Rattle.std.specs.Prelude.{ℕ, ◌+◌, max, Bool, true, not, ◌&&◌, List, [], ◌∷◌, map, leb}
 use Rattle.laws.specs.Lists.{all, keep, largest, total}
 use Rattle.records.specs.declared.Job.{Job}
 use Rattle.records.specs.declared.Slot.{Slot}

@@ -1,6 +1,6 @@
 -- Sequences and running one. "All of this section speaks of the normal form": `table` is one.
 -- A sequence is a list of job numbers with the last job first, so that each beginning of it is a tail of the list.
-use Rattle.std.specs.Prelude.{ℕ, ◌+◌, max, Bool, true, false, cond, not, ◌&&◌, ◌||◌, List, [], ◌∷◌, eqb}
+use Rattle.std.specs.Prelude.{ℕ, ◌+◌, max, Bool, true, cond, not, ◌&&◌, ◌||◌, List, [], ◌∷◌, eqb}
 use Rattle.laws.specs.Lists.{any, all}
 use Rattle.records.specs.Record.{slot}
 use Rattle.records.specs.declared.Slot.{Slot}

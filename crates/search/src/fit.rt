@@ -3,14 +3,14 @@ ghost use Rattle.std.specs.Prelude.{◌≡◌, ◌+◌, ◌<◌, ◌≤◌, max}
 ghost use Rattle.search.specs.State.{linked, start_at, StartBelow, remains_after, fits_after, rest_fits, opens_at};
 
 // When a job may start.
-#[derive(Drop)]
+#[derive(Clone, Copy)]
 pub enum Start {
     At(u32),
     NotYet,
 }
 
 // When a job that may come next ends.
-#[derive(Drop)]
+#[derive(Clone, Copy)]
 pub enum Next {
     Ends(u16),
     Not,

@@ -1,4 +1,7 @@
 // The search for the first schedule in order, on a normal form.
+
+#![tactic(auto)]
+
 ghost use Rattle.std.specs.Prelude.{◌≡◌, not, List, map, ◌*◌, ◌≤◌, length};
 ghost use Rattle.records.specs.declared.JobRecord.{JobRecord};
 ghost use Rattle.jobs.specs.Judge.{Sound};
@@ -17,7 +20,7 @@ pub mod tree;
 const NO_JOB: usize = 48;
 
 // Which jobs have run, in what order, when each of them ended, and when the core is free. A number that no job has is marked as placed.
-#[derive(Drop)]
+#[derive(Clone, Copy)]
 pub struct State {
     pub placed: [bool; 48],
     pub order: [u8; 48],
@@ -26,7 +29,7 @@ pub struct State {
 }
 
 // What bounds a search: the job numbers are below `limit`, there are `count` jobs, and at most `budget` sequences are opened.
-#[derive(Drop)]
+#[derive(Clone, Copy)]
 pub struct Bounds {
     pub limit: usize,
     pub count: usize,
@@ -34,7 +37,7 @@ pub struct Bounds {
 }
 
 // What a search answers: 0 with the slots written, 10 or 11, and the openings.
-#[derive(Drop)]
+#[derive(Clone, Copy)]
 pub struct Found {
     pub number: u32,
     pub openings: u32,
