@@ -1,20 +1,18 @@
 -- What an accepted pass table expands to is itself a job table within the limits: none of 1 to 5 holds of it. Its jobs are numbered one after another from 0 on, below 48;
 -- each has a cost, and a deadline within the cycle; and each link joins two different ones. Assumes nothing.
-use Prim.Native.Nat.{ℕ, zero, suc, ◌+◌, ◌*◌, ◌/◌, ◌%◌, ◌<◌, ◌≤◌}
+use Prim.Native.Nat.{ℕ, ◌+◌, ◌%◌, ◌<◌, ◌≤◌}
 use native.Mathlib.Omega.{arith}
 use mathlib.Core.Path.{◌≡◌, refl, sym, ap, ◌∙◌}
-use mathlib.Core.Bool.{Bool, true, false, not, ◌||◌}
+use mathlib.Core.Bool.{true, false}
 use mathlib.Core.Logic.{◌⊎◌, inl, inr}
 use mathlib.Core.List.{List, [], ◌∷◌, ◌++◌, map, Memᴰ}
-use mathlib.Core.Option.{none}
-use lib.Dec.{eqb, ltb}
 use lib.ListN.{length, length-map}
 use borrow.Author.Tests.{eq-eqb, ne_eqb, le-ltb}
 use Rattle.laws.specs.Lists.{count, any, Every, flat}
 use Rattle.laws.proofs.Members.{false_or, member_any, every_member, member_every, count_member, Faultless, first_fault_none, faultless_each}
 use Rattle.records.specs.Bytes.{Bytes}
-use Rattle.records.specs.Record.{in_passes, in_jobs, job_bytes, PassFits, JobFits}
-use Rattle.records.specs.Table.{bad_length, read_all, unreadable, encode}
+use Rattle.records.specs.Record.{job_bytes, PassFits, JobFits}
+use Rattle.records.specs.Table.{bad_length, encode}
 use Rattle.records.specs.declared.Pass.{Pass}
 use Rattle.records.specs.declared.PassRecord.{PassRecord}
 use Rattle.records.specs.declared.PassRecord.TheVariants.{P}

@@ -1,6 +1,6 @@
 -- The print program's lines, by computation: 01's own example, and a refusal with openings. Assumes nothing.
 use mathlib.Core.Path.{◌≡◌, refl}
-use mathlib.Core.List.{List, [], ◌∷◌}
+use mathlib.Core.List.{[], ◌∷◌}
 use Rattle.cases.specs.Case.{jobs}
 use Rattle.cases.specs.Starred.{example_jobs, table_f}
 use Rattle.cases.proofs.Computes.{computes as cases}

@@ -6,8 +6,7 @@ use passes::expand::{count_links, write_jobs, write_links};
 use passes::judge::judge;
 
 // The job table that a pass table expands to, into the first bytes of the output.
-#[unsafe(no_mangle)]
-pub extern "C" fn argilosco_expand(passes: &[u8], out: &mut [u8]) -> Written
+pub fn argilosco_expand(passes: &[u8], out: &mut [u8]) -> Written
     ensures { ExpandPromise passes.now out.old result out.new }
 {
     let judged = judge(passes);

@@ -18,8 +18,7 @@ fn refused(number: u32) -> Written
 }
 
 // The normal form of the table, written to the start of the output; or the lowest of 1 to 5 and 7 to 9 that holds, and nothing written.
-#[unsafe(no_mangle)]
-pub extern "C" fn argilosco_normalise(jobs: &[u8], out: &mut [u8]) -> Written
+pub fn argilosco_normalise(jobs: &[u8], out: &mut [u8]) -> Written
     ensures { NormalisePromise jobs.now out.old result out.new }
 {
     let judged = judge(jobs);

@@ -25,8 +25,7 @@ fn refused(number: u32) -> Scheduled
 
 // The table's schedule, written to the start of the output; or the lowest of 1 to 5 and 7 to 11 that holds, and nothing written.
 // The search is on the normal form, and is begun only where there is room for a slot of each job.
-#[unsafe(no_mangle)]
-pub extern "C" fn argilosco_schedule(jobs: &[u8], budget: u32, out: &mut [u8]) -> Scheduled
+pub fn argilosco_schedule(jobs: &[u8], budget: u32, out: &mut [u8]) -> Scheduled
     ensures { SchedulePromise jobs.now budget out.old result out.new }
 {
     let judged = judge(jobs);
