@@ -8,7 +8,7 @@ use Rattle.search.proofs.fit.rest_fits.Given as goal
 
 abbrev pub invariant-loop-m : goal.invariant-loop-m
 invariant-loop-m l =
-    (l.m ≤ l.limit) × (l.limit ≤ 48) × (l.t < 65536) × (l.costs ≤ 65535 * l.m) × (rest_from l.cost l.release l.deadline l.limit l.placed l.k l.t l.costs l.last l.m ≡ rest_fits l.cost l.release l.deadline l.limit l.placed l.k l.t)
+    (rest_from l.cost l.release l.deadline l.limit l.placed l.k l.t l.costs l.last l.m ≡ rest_fits l.cost l.release l.deadline l.limit l.placed l.k l.t) × (l.m ≤ l.limit) × (l.limit ≤ 48) × (l.t < 65536) × (l.costs ≤ 65535 * l.m)
 
 abbrev pub decreases-loop-m : goal.decreases-loop-m
 decreases-loop-m l = l.limit - l.m
