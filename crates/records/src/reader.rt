@@ -7,7 +7,7 @@ use crate::plain::{job_record, pass_record};
 use crate::{JobRead, PassRead};
 
 // The table's bytes and the place of the record to be read next.
-#[derive(Drop)]
+#[derive(Clone, Copy)]
 pub struct Reader<'a> {
     pub bytes: &'a [u8],
     pub place: usize,
