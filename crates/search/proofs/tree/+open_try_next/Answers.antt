@@ -21,13 +21,13 @@ try_next-open-r-requires t c =
 pub try_next-returns-then-r-ne10-clause-answers : goal.try_next-returns-then-r-ne10-clause-answers
 try_next-returns-then-r-ne10-clause-answers t c =
     let ends = sym c.opens_at.ensures ∙ c.in-Ends.is in
-    answers_same _ _ _ _ _ _ c.loop-k.invariant.2 c.loop-k.invariant.1 (next_stop _ _ _ _ _ _ _ _ _ _ _ c.loop-k-test.true ends c.place-t.ensures.value c.if-r-ne10.true c.open-r.ensures.answers)
+    answers_same _ _ _ _ _ _ c.loop-k.invariant.2 c.loop-k.invariant.1 (next_stop _ _ _ _ _ _ _ _ _ _ _ c.loop-k-test.true ends c.place-t.ensures.value (λ h. c.if-r-ne10.true (omega (arith, h))) c.open-r.ensures.answers)
 
 pub try_next-returns-in-Ends-clause-answers : goal.try_next-returns-in-Ends-clause-answers
 try_next-returns-in-Ends-clause-answers t c =
     let ends = sym c.opens_at.ensures ∙ c.in-Ends.is in
     answers_same _ _ _ _ _ _ c.loop-k.invariant.2 c.loop-k.invariant.1
-    (next_on _ _ _ _ _ _ _ _ _ _ _ c.loop-k-test.true ends c.place-t.ensures.value _ _ c.if-r-ne10.false c.open-r.ensures.answers c.try_next.ensures.answers)
+    (next_on _ _ _ _ _ _ _ _ _ _ _ c.loop-k-test.true ends c.place-t.ensures.value _ _ (omega (arith, c.if-r-ne10.false)) c.open-r.ensures.answers c.try_next.ensures.answers)
 
 pub try_next-loop-k-preserved : goal.try_next-loop-k-preserved
 try_next-loop-k-preserved t c =
