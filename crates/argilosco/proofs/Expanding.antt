@@ -91,6 +91,14 @@ module _ (bytes : List ℕ) {passes : Passes} {cycle : ℕ} (ok : Accepted bytes
   unfolding expanded_bytes
   small_length = omega (arith, length_encode jobs (expanded (pass_table bytes)), expanded_size bytes ok.number)
 
+  -- so of the jobs and the links that the code counted, which therefore fit its numbers
+  module _ {m n : ℕ} (jobs-counted : m ≡ job_count cycle (in_order passes)) (links-counted : n ≡ length (flat (flow_links (pass_table bytes) cycle) (flows_of (pass_table bytes)))) where
+    pub exact_counted : length (expanded_bytes bytes) ≡ 12 * m + 12 * n
+    exact_counted = omega (arith, exact_length, jobs-counted, links-counted)
+
+    pub small_counted : 12 * m + 12 * n ≤ 19008
+    small_counted = omega (arith, exact_counted, small_length)
+
   -- the jobs written first, and the links into the rest that was lent, are all of it
   pub both_written : (before : List ℕ) (m k : ℕ) {now part : List ℕ} → now ≡ overwrite job_part before → length job_part ≡ m → k ≡ length now - m → part ≡ overwrite link_part (take k (drop m now))
       → take m now ++ (part ++ drop k (drop m now)) ≡ overwrite (expanded_bytes bytes) before
