@@ -1,4 +1,4 @@
-//! Links libargilosco.a from the folder ARGILOSCO_LIB, or from where `rt staticlib argilosco` leaves it.
+//! Links libargilosco.a from the folder ARGILOSCO_LIB, or from target/staticlib, where the gate leaves it.
 
 use std::{env, path::PathBuf, process::exit};
 
@@ -14,8 +14,8 @@ fn main() {
     let archive = folder.join("libargilosco.a");
     println!("cargo:rerun-if-changed={}", archive.display());
     if !archive.is_file() {
-        eprintln!("{} is missing: make it with `rt staticlib argilosco`,", archive.display());
-        eprintln!("or say in ARGILOSCO_LIB which folder it is in");
+        eprintln!("{} is missing: copy crates/argilosco_c/out/libargilosco_c.a", archive.display());
+        eprintln!("there, which `rt lib` makes, or say in ARGILOSCO_LIB which folder it is in");
         exit(1);
     }
     println!("cargo:rustc-link-search=native={}", folder.display());

@@ -1,97 +1,105 @@
 -- What expanding comes to, for each of its answers: the lowest of 1 to 6 that holds; 9 where the room is short of the exact length; and the records.
 -- The length is twelve bytes for each job and each link, and the links' bytes follow straight after the jobs'.
-use Prim.Native.Nat.{ℕ, zero, suc, _+_, _-_, _*_, _<_, _≤_}
+use Prim.Native.Nat.{ℕ, zero, suc, ◌+◌, ◌-◌, ◌*◌, ◌<◌, ◌≤◌}
 use native.Mathlib.Omega.{arith}
-use mathlib.Core.Path.{_≡_, refl, sym, ap, _∙_}
-use mathlib.Core.List.{List, _++_, map}
+use mathlib.Core.Path.{◌≡◌, refl, sym, ap, ◌∙◌}
+use mathlib.Core.List.{List, ◌++◌, map}
 use lib.Dec.{ltb}
 use lib.ListN.{length, take, drop, length-append, length-map}
 use borrow.Author.Tests.{lt-ltb, le-ltb}
-use Rattle·laws.specs.Lists.{flat}
-use Rattle·laws.proofs.Adjoining.{flat-append}
-use Rattle·records.specs.Record.{jobBytes}
-use Rattle·records.specs.Table.{encode}
-use Rattle·records.specs.Outcome.{Outcome, refuse, refused, overwrite}
-use Rattle·records.specs.declared.JobRecord.the-variants.{J, L}
-use Rattle·records.proofs.Codec.{jobs}
-use Rattle·records.proofs.Tables.{length-encode}
-use Rattle·records.proofs.Writing.{overwrite-rest}
-use Rattle·passes.specs.Expand.{passesInOrder, flowsOf, cycleOf, jobsFrom, jobCount, flowLinks, expanded}
-use Rattle·passes.specs.Call.{passTable, passesNumber, expandedBytes, expandNumber, expand}
-use Rattle·passes.specs.Arrays.{inOrder, JudgedAs, Accepted}
-use Rattle·passes.specs.declared.Passes.{Passes}
-use Rattle·passes.specs.declared.Judged.{Judged}
-use Rattle·passes.proofs.Judging.{number-later, number-refused}
-use Rattle·passes.proofs.Instances.{length-jobs}
-use Rattle·passes.proofs.Size.{expanded-size}
-use Rattle·passes.proofs.Accepted.{passes-order}
-use Rattle·argilosco·specs.specs.Promise.{Keeps}
+use Rattle.laws.specs.Lists.{flat}
+use Rattle.laws.proofs.Adjoining.{flat_append}
+use Rattle.records.specs.Record.{job_bytes}
+use Rattle.records.specs.Table.{encode}
+use Rattle.records.specs.Outcome.{Outcome, refuse, refused, overwrite}
+use Rattle.records.specs.declared.JobRecord.TheVariants.{J, L}
+use Rattle.records.proofs.Codec.{jobs}
+use Rattle.records.proofs.Tables.{length_encode}
+use Rattle.records.proofs.Writing.{overwrite_rest}
+use Rattle.passes.specs.Expand.{passes_in_order, flows_of, cycle_of, jobs_from, job_count, flow_links, expanded}
+use Rattle.passes.specs.Call.{pass_table, passes_number, expanded_bytes, expand_number, expand}
+use Rattle.passes.specs.Arrays.{in_order, JudgedAs, Accepted}
+use Rattle.passes.specs.declared.Passes.{Passes}
+use Rattle.passes.specs.declared.Judged.{Judged}
+use Rattle.passes.proofs.Judging.{number_later, number_refused}
+use Rattle.passes.proofs.Instances.{length_jobs}
+use Rattle.passes.proofs.Size.{expanded_size}
+use Rattle.passes.proofs.Accepted.{passes_order}
+use Rattle.argilosco.specs.Promise.{Keeps}
 
 -- an answer that refuses leaves the output as it was
-keeps-refused : {outcome : Outcome} {before : List ℕ} {n : ℕ} → outcome ≡ refused n 0 → Keeps outcome before (record { number = n; written = 0 }) before
-keeps-refused e = rw e (record { number = refl; written = refl; output = refl })
+keeps_refused : {outcome : Outcome} {before : List ℕ} {n : ℕ} → outcome ≡ refused n 0 → Keeps outcome before (record { number = n; written = 0 }) before
+keeps_refused e = rw e (record { number = refl; written = refl; output = refl })
 
 module _ (bytes before : List ℕ) where
   -- 1 to 6: the lowest that holds
-  pub refused-right : (n : ℕ) → (n ≡ 0 → ⊥) → n ≡ passesNumber bytes 0 → Keeps (expand bytes (length before)) before (record { number = n; written = 0 }) before
-  unfolding expand expandNumber
-  refused-right zero some e = absurd (some refl)
-  refused-right (suc n) some e = keeps-refused (rw (number-refused bytes n (sym e) (refuse 9 (ltb (length before) (length (expandedBytes bytes))) 0)))
+  pub refused_right : (n : ℕ) → (n ≡ 0 → ⊥) → n ≡ passes_number bytes 0 → Keeps (expand bytes (length before)) before (record { number = n; written = 0 }) before
+  unfolding expand expand_number
+  refused_right zero some e = absurd (some refl)
+  refused_right (suc n) some e = keeps_refused (rw (number_refused bytes n (sym e) (refuse 9 (ltb (length before) (length (expanded_bytes bytes))) 0)))
 
-  module _ (ok : passesNumber bytes 0 ≡ 0) where
+  module _ (ok : passes_number bytes 0 ≡ 0) where
     -- 9: "output too short", judged on the exact length
-    pub short-right : length before < length (expandedBytes bytes) → Keeps (expand bytes (length before)) before (record { number = 9; written = 0 }) before
-    unfolding expand expandNumber
-    short-right h = keeps-refused (rw (number-later bytes ok (refuse 9 (ltb (length before) (length (expandedBytes bytes))) 0), lt-ltb (length before) (length (expandedBytes bytes)) h))
+    pub short_right : length before < length (expanded_bytes bytes) → Keeps (expand bytes (length before)) before (record { number = 9; written = 0 }) before
+    unfolding expand expand_number
+    short_right h = keeps_refused (rw (number_later bytes ok (refuse 9 (ltb (length before) (length (expanded_bytes bytes))) 0), lt-ltb (length before) (length (expanded_bytes bytes)) h))
 
     -- 0: the records' bytes, and the rest unchanged
-    pub done-right : length (expandedBytes bytes) ≤ length before → {written : ℕ} {after : List ℕ} → written ≡ length (expandedBytes bytes) → after ≡ overwrite (expandedBytes bytes) before
+    pub done_right : length (expanded_bytes bytes) ≤ length before → {written : ℕ} {after : List ℕ} → written ≡ length (expanded_bytes bytes) → after ≡ overwrite (expanded_bytes bytes) before
         → Keeps (expand bytes (length before)) before (record { number = 0; written = written }) after
-    unfolding expand expandNumber
-    done-right h size left =
-        rw (number-later bytes ok (refuse 9 (ltb (length before) (length (expandedBytes bytes))) 0), le-ltb (length before) (length (expandedBytes bytes)) h)
+    unfolding expand expand_number
+    done_right h size left =
+        rw (number_later bytes ok (refuse 9 (ltb (length before) (length (expanded_bytes bytes))) 0), le-ltb (length before) (length (expanded_bytes bytes)) h)
         (record { number = refl; written = size; output = left })
 
 -- a table that is given 0 is accepted, with the passes, the cycle and the jobs of the answer
-pub judged-accepted : {bytes : List ℕ} {answer : Judged} → JudgedAs bytes answer → answer .number ≡ 0 → Accepted bytes (answer .passes) (answer .cycle)
-judged-accepted j e = record { number = sym (j .number) ∙ e; passes = j .passes e; cycle = j .cycle e }
+pub judged_accepted : {bytes : List ℕ} {answer : Judged} → JudgedAs bytes answer → answer.number ≡ 0 → Accepted bytes answer.passes answer.cycle
+judged_accepted j e = record { number = sym j.number ∙ e; passes = j.passes e; cycle = j.cycle e }
 
-pub judged-jobs : {bytes : List ℕ} {answer : Judged} → JudgedAs bytes answer → answer .number ≡ 0 → answer .jobs ≡ jobCount (answer .cycle) (inOrder (answer .passes))
-judged-jobs {bytes} j e = j .jobs e ∙ sym (rw (passes-order bytes (judged-accepted j e), j .cycle e))
+pub judged_jobs : {bytes : List ℕ} {answer : Judged} → JudgedAs bytes answer → answer.number ≡ 0 → answer.jobs ≡ job_count answer.cycle (in_order answer.passes)
+judged_jobs {bytes} j e = j.jobs e ∙ sym (rw (passes_order bytes (judged_accepted j e), j.cycle e))
 
 module _ (bytes : List ℕ) {passes : Passes} {cycle : ℕ} (ok : Accepted bytes passes cycle) where
   -- the bytes of its jobs, and those of its links
-  abbrev pub jobPart : List ℕ
-  jobPart = encode jobBytes (map J (jobsFrom cycle 0 (inOrder passes)))
+  abbrev pub job_part : List ℕ
+  job_part = encode job_bytes (map J (jobs_from cycle 0 (in_order passes)))
 
-  abbrev pub linkPart : List ℕ
-  linkPart = encode jobBytes (map L (flat (flowLinks (passTable bytes) cycle) (flowsOf (passTable bytes))))
+  abbrev pub link_part : List ℕ
+  link_part = encode job_bytes (map L (flat (flow_links (pass_table bytes) cycle) (flows_of (pass_table bytes))))
 
   -- the links' bytes follow straight after the jobs'
-  pub parts : expandedBytes bytes ≡ jobPart ++ linkPart
-  unfolding expandedBytes expanded encode
+  pub parts : expanded_bytes bytes ≡ job_part ++ link_part
+  unfolding expanded_bytes expanded encode
   parts =
-      flat-append jobBytes (map J (jobsFrom (cycleOf (passTable bytes)) 0 (passesInOrder (passTable bytes)))) (map L (flat (flowLinks (passTable bytes) (cycleOf (passTable bytes))) (flowsOf (passTable bytes))))
-      ∙ sym (rw (passes-order bytes ok, ok .cycle))
+      flat_append job_bytes (map J (jobs_from (cycle_of (pass_table bytes)) 0 (passes_in_order (pass_table bytes)))) (map L (flat (flow_links (pass_table bytes) (cycle_of (pass_table bytes))) (flows_of (pass_table bytes))))
+      ∙ sym (rw (passes_order bytes ok, ok.cycle))
 
   -- twelve bytes for each job, and for each link
-  pub job-part : length jobPart ≡ 12 * jobCount cycle (inOrder passes)
-  job-part = omega (arith, length-encode jobs (map J (jobsFrom cycle 0 (inOrder passes))), length-jobs cycle 0 (inOrder passes))
+  pub job_part_lem : length job_part ≡ 12 * job_count cycle (in_order passes)
+  job_part_lem = omega (arith, length_encode jobs (map J (jobs_from cycle 0 (in_order passes))), length_jobs cycle 0 (in_order passes))
 
-  pub link-part : length linkPart ≡ 12 * length (flat (flowLinks (passTable bytes) cycle) (flowsOf (passTable bytes)))
-  link-part =
-      let links = flat (flowLinks (passTable bytes) cycle) (flowsOf (passTable bytes)) in
-      omega (arith, length-encode jobs (map L links), length-map links L)
+  pub link_part_lem : length link_part ≡ 12 * length (flat (flow_links (pass_table bytes) cycle) (flows_of (pass_table bytes)))
+  link_part_lem =
+      let links = flat (flow_links (pass_table bytes) cycle) (flows_of (pass_table bytes)) in
+      omega (arith, length_encode jobs (map L links), length-map links L)
 
   -- the exact length, which is at most 1,584 records'
-  pub exact-length : length (expandedBytes bytes) ≡ 12 * jobCount cycle (inOrder passes) + 12 * length (flat (flowLinks (passTable bytes) cycle) (flowsOf (passTable bytes)))
-  exact-length = omega (arith, ap length parts, length-append jobPart linkPart, job-part, link-part)
+  pub exact_length : length (expanded_bytes bytes) ≡ 12 * job_count cycle (in_order passes) + 12 * length (flat (flow_links (pass_table bytes) cycle) (flows_of (pass_table bytes)))
+  exact_length = omega (arith, ap length parts, length-append job_part link_part, job_part_lem, link_part_lem)
 
-  pub small-length : length (expandedBytes bytes) ≤ 19008
-  unfolding expandedBytes
-  small-length = omega (arith, length-encode jobs (expanded (passTable bytes)), expanded-size bytes (ok .number))
+  pub small_length : length (expanded_bytes bytes) ≤ 19008
+  unfolding expanded_bytes
+  small_length = omega (arith, length_encode jobs (expanded (pass_table bytes)), expanded_size bytes ok.number)
+
+  -- so of the jobs and the links that the code counted, which therefore fit its numbers
+  module _ {m n : ℕ} (jobs-counted : m ≡ job_count cycle (in_order passes)) (links-counted : n ≡ length (flat (flow_links (pass_table bytes) cycle) (flows_of (pass_table bytes)))) where
+    pub exact_counted : length (expanded_bytes bytes) ≡ 12 * m + 12 * n
+    exact_counted = omega (arith, exact_length, jobs-counted, links-counted)
+
+    pub small_counted : 12 * m + 12 * n ≤ 19008
+    small_counted = omega (arith, exact_counted, small_length)
 
   -- the jobs written first, and the links into the rest that was lent, are all of it
-  pub both-written : (before : List ℕ) (m k : ℕ) {now part : List ℕ} → now ≡ overwrite jobPart before → length jobPart ≡ m → k ≡ length now - m → part ≡ overwrite linkPart (take k (drop m now))
-      → take m now ++ (part ++ drop k (drop m now)) ≡ overwrite (expandedBytes bytes) before
-  both-written before m k wrote size long rest = overwrite-rest before jobPart linkPart m k wrote size long rest ∙ ap (λ all. overwrite all before) (sym parts)
+  pub both_written : (before : List ℕ) (m k : ℕ) {now part : List ℕ} → now ≡ overwrite job_part before → length job_part ≡ m → k ≡ length now - m → part ≡ overwrite link_part (take k (drop m now))
+      → take m now ++ (part ++ drop k (drop m now)) ≡ overwrite (expanded_bytes bytes) before
+  both_written before m k wrote size long rest = overwrite_rest before job_part link_part m k wrote size long rest ∙ ap (λ all. overwrite all before) (sym parts)

@@ -4,6 +4,7 @@ pub mod BadTools
 pub mod Printing
 pub mod Refusals
 pub mod Expanding
+pub mod Passing
 pub mod Normalising
 pub mod Scheduling
 pub mod Expanded

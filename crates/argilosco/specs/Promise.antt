@@ -1,20 +1,17 @@
 -- What each public call promises of its answer and of the output it was lent: `before` is the output as the call found it, `after` as it left it.
-use Prim.Native.Nat.{ℕ}
-use mathlib.Core.Path.{_≡_}
-use mathlib.Core.List.{List}
-use lib.ListN.{length}
-use Rattle·records.specs.Outcome.{Outcome, overwrite}
-use Rattle·passes.specs.Call.{expand}
-use Rattle·normal.specs.Call.{normalise}
-use Rattle·search.specs.Call.{scheduled}
-use Rattle·argilosco·specs.specs.declared.Written.{Written}
-use Rattle·argilosco·specs.specs.declared.Scheduled.{Scheduled}
+use Rattle.std.specs.Prelude.{ℕ, ◌≡◌, List, length}
+use Rattle.records.specs.Outcome.{Outcome, overwrite}
+use Rattle.passes.specs.Call.{expand}
+use Rattle.normal.specs.Call.{normalise}
+use Rattle.search.specs.Call.{scheduled}
+use Rattle.argilosco.specs.declared.Written.{Written}
+use Rattle.argilosco.specs.declared.Scheduled.{Scheduled}
 
 -- number, bytes written and every byte of the output are those of an outcome
 pub record Keeps (outcome : Outcome) (before : List ℕ) (answer : Written) (after : List ℕ) : Type 0 where
-  pub number : answer .number ≡ outcome .number
-  pub written : answer .written ≡ length (outcome .bytes)
-  pub output : after ≡ overwrite (outcome .bytes) before
+  pub number : answer.number ≡ outcome.number
+  pub written : answer.written ≡ length outcome.bytes
+  pub output : after ≡ overwrite outcome.bytes before
 
 -- what expanding a pass table promises
 abbrev pub ExpandPromise : List ℕ → List ℕ → Written → List ℕ → Type 0
@@ -26,10 +23,10 @@ NormalisePromise jobs before answer after = Keeps (normalise jobs (length before
 
 -- the same of an answer with openings
 pub record KeepsOpenings (outcome : Outcome) (before : List ℕ) (answer : Scheduled) (after : List ℕ) : Type 0 where
-  pub number : answer .number ≡ outcome .number
-  pub written : answer .written ≡ length (outcome .bytes)
-  pub openings : answer .openings ≡ outcome .openings
-  pub output : after ≡ overwrite (outcome .bytes) before
+  pub number : answer.number ≡ outcome.number
+  pub written : answer.written ≡ length outcome.bytes
+  pub openings : answer.openings ≡ outcome.openings
+  pub output : after ≡ overwrite outcome.bytes before
 
 -- what scheduling a job table under a budget promises
 abbrev pub SchedulePromise : List ℕ → ℕ → List ℕ → Scheduled → List ℕ → Type 0

@@ -1,15 +1,13 @@
 // Expanding a pass table into a job table.
+ghost use Rattle.argilosco.specs.Promise.{ExpandPromise};
+
 use crate::Written;
-use passes::expand::count_links;
-use passes::expand::write_jobs;
-use passes::expand::write_links;
+use passes::expand::{count_links, write_jobs, write_links};
 use passes::judge::judge;
-ghost use Rattle·argilosco·specs.specs.Promise.{ExpandPromise};
 
 // The job table that a pass table expands to, into the first bytes of the output.
-#[no_mangle]
-pub extern "C" fn argilosco_expand(passes: &[u8], out: &mut [u8]) -> Written
-    ensures { λ r. ⌜ ExpandPromise (now (passes .entry)) (now (out .entry)) r (now (out .exit)) ⌝ }
+pub fn argilosco_expand(passes: &[u8], out: &mut [u8]) -> Written
+    ensures { ExpandPromise passes.now out.old result out.new }
 {
     let judged = judge(passes);
     let number = judged.number;

@@ -1,4 +1,6 @@
-// The public calls, exported for C and Rust: what they answer, and what they promise.
+// The public calls: what they answer, and what they promise. The crate argilosco_c exports them for C and Rust.
+
+#![tactic(auto)]
 
 pub mod expand;
 pub mod normalise;
@@ -6,6 +8,7 @@ pub mod schedule;
 
 // What expanding and normalising answer: 01's number, and how many bytes of the output were written.
 #[repr(C)]
+#[derive(Clone, Copy)]
 pub struct Written {
     pub number: u32,
     pub written: u32,
@@ -13,6 +16,7 @@ pub struct Written {
 
 // What scheduling answers: also how many sequences were opened.
 #[repr(C)]
+#[derive(Clone, Copy)]
 pub struct Scheduled {
     pub number: u32,
     pub written: u32,

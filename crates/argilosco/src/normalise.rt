@@ -1,29 +1,25 @@
 // Normalising a job table.
+ghost use Rattle.std.specs.Prelude.{◌≡◌};
+ghost use Rattle.argilosco.specs.Promise.{NormalisePromise};
+
 use crate::Written;
 use jobs::judge::judge;
 use jobs::load::load_links;
 use normal::choose::choose;
-use normal::gaps::gaps;
-use normal::gaps::ring_in;
-use normal::tighten::no_starts;
-use normal::tighten::windows;
-use normal::write::count_jobs;
-use normal::write::count_links;
-use normal::write::write_normal;
-ghost use mathlib.Core.Path.{_≡_};
-ghost use Rattle·argilosco·specs.specs.Promise.{NormalisePromise};
+use normal::gaps::{gaps, ring_in};
+use normal::tighten::{no_starts, windows};
+use normal::write::{count_jobs, count_links, write_normal};
 
 // Refused: the number, and no bytes written.
 fn refused(number: u32) -> Written
-    ensures { λ r. ⌜ (r .number ≡ number) × (r .written ≡ 0) ⌝ }
+    ensures { (result.number ≡ number) × (result.written ≡ 0) }
 {
     Written { number, written: 0 }
 }
 
 // The normal form of the table, written to the start of the output; or the lowest of 1 to 5 and 7 to 9 that holds, and nothing written.
-#[no_mangle]
-pub extern "C" fn argilosco_normalise(jobs: &[u8], out: &mut [u8]) -> Written
-    ensures { λ r. ⌜ NormalisePromise (now (jobs .entry)) (now (out .entry)) r (now (out .exit)) ⌝ }
+pub fn argilosco_normalise(jobs: &[u8], out: &mut [u8]) -> Written
+    ensures { NormalisePromise jobs.now out.old result out.new }
 {
     let judged = judge(jobs);
     let number = judged.number;

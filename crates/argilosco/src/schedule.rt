@@ -1,22 +1,20 @@
 // Scheduling a job table.
+ghost use Rattle.std.specs.Prelude.{◌≡◌};
+ghost use Rattle.argilosco.specs.Promise.{SchedulePromise};
+
 use crate::Scheduled;
 use jobs::judge::judge;
 use jobs::load::load_links;
 use normal::choose::choose;
-use normal::form::tightened;
-use normal::form::turned;
-use normal::gaps::gaps;
-use normal::gaps::ring_in;
-use normal::tighten::no_starts;
-use normal::tighten::windows;
+use normal::form::{tightened, turned};
+use normal::gaps::{gaps, ring_in};
+use normal::tighten::{no_starts, windows};
 use normal::write::count_jobs;
 use search::search;
-ghost use mathlib.Core.Path.{_≡_};
-ghost use Rattle·argilosco·specs.specs.Promise.{SchedulePromise};
 
 // Refused before any search: the number, no bytes written and no openings.
 fn refused(number: u32) -> Scheduled
-    ensures { λ r. ⌜ (r .number ≡ number) × (r .written ≡ 0) × (r .openings ≡ 0) ⌝ }
+    ensures { (result.number ≡ number) × (result.written ≡ 0) × (result.openings ≡ 0) }
 {
     Scheduled {
         number,
@@ -27,9 +25,8 @@ fn refused(number: u32) -> Scheduled
 
 // The table's schedule, written to the start of the output; or the lowest of 1 to 5 and 7 to 11 that holds, and nothing written.
 // The search is on the normal form, and is begun only where there is room for a slot of each job.
-#[no_mangle]
-pub extern "C" fn argilosco_schedule(jobs: &[u8], budget: u32, out: &mut [u8]) -> Scheduled
-    ensures { λ r. ⌜ SchedulePromise (now (jobs .entry)) budget (now (out .entry)) r (now (out .exit)) ⌝ }
+pub fn argilosco_schedule(jobs: &[u8], budget: u32, out: &mut [u8]) -> Scheduled
+    ensures { SchedulePromise jobs.now budget out.old result out.new }
 {
     let judged = judge(jobs);
     let number = judged.number;

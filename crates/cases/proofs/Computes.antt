@@ -1,10 +1,10 @@
 -- One name that opens this crate's definitions and those below it to computation.
-use Rattle·records.proofs.Computes.{computes as records}
-use Rattle·cases·specs.specs.Case.{sameBytes, sameOutcome, passesBy, allPass, ofCalls}
-use Rattle·cases·specs.specs.Starred.{starred}
-use Rattle·cases·specs.specs.Further.{further}
-use Rattle·cases·specs.specs.Edges.{edges}
+use Rattle.records.proofs.Computes.{computes as records}
+use Rattle.cases.specs.Case.{same_bytes, same_outcome, passes_by, all_pass, of_calls}
+use Rattle.cases.specs.Starred.{starred}
+use Rattle.cases.specs.Further.{further}
+use Rattle.cases.specs.Edges.{edges}
 
 unfoldable pub computes : Unit {0}
-unfolding records sameBytes sameOutcome passesBy allPass ofCalls starred further edges
+unfolding records same_bytes same_outcome passes_by all_pass of_calls starred further edges
 computes = tt

@@ -1,18 +1,14 @@
 -- A case: a call on a table, and what it must come to.
-use Prim.Native.Nat.{ℕ}
-use mathlib.Core.Bool.{Bool, true, false, _&&_}
-use mathlib.Core.List.{List, [], _∷_}
-use lib.ListN.{length}
-use lib.Dec.{eqb}
-use Rattle·laws.specs.Lists.{all, keep}
-use Rattle·records.specs.Record.{passBytes, jobBytes, slotBytes, pass, flow, job, link, slot}
-use Rattle·records.specs.Table.{encode}
-use Rattle·records.specs.Outcome.{Outcome, done, refused}
-use Rattle·records.specs.declared.Slot.{Slot}
-use Rattle·records.specs.declared.PassRecord.{PassRecord}
-use Rattle·records.specs.declared.PassRecord.the-variants.{P, F}
-use Rattle·records.specs.declared.JobRecord.{JobRecord}
-use Rattle·records.specs.declared.JobRecord.the-variants.{J, L}
+use Rattle.std.specs.Prelude.{ℕ, Bool, true, false, ◌&&◌, List, [], ◌∷◌, length, eqb}
+use Rattle.laws.specs.Lists.{all, keep}
+use Rattle.records.specs.Record.{pass_bytes, job_bytes, slot_bytes, pass, flow, job, link, slot}
+use Rattle.records.specs.Table.{encode}
+use Rattle.records.specs.Outcome.{Outcome, done, refused}
+use Rattle.records.specs.declared.Slot.{Slot}
+use Rattle.records.specs.declared.PassRecord.{PassRecord}
+use Rattle.records.specs.declared.PassRecord.TheVariants.{P, F}
+use Rattle.records.specs.declared.JobRecord.{JobRecord}
+use Rattle.records.specs.declared.JobRecord.TheVariants.{J, L}
 
 -- the three calls; scheduling is under a budget
 pub data Call : Type 0 where
@@ -49,11 +45,11 @@ s n start end = slot n start end
 
 -- the bytes of a pass table
 abbrev pub passes : List PassRecord → List ℕ
-passes = encode passBytes
+passes = encode pass_bytes
 
 -- the bytes of a job table
 abbrev pub jobs : List JobRecord → List ℕ
-jobs = encode jobBytes
+jobs = encode job_bytes
 
 -- done: the room is just what the records need
 abbrev pub gives : Call → List ℕ → ℕ → List ℕ → Case
@@ -69,63 +65,63 @@ normalises table output = gives normalising (jobs table) 0 (jobs output)
 
 -- a job table gets this schedule under a budget, with so many openings
 abbrev pub schedules : List JobRecord → ℕ → ℕ → List Slot → Case
-schedules table budget opened output = gives (scheduling budget) (jobs table) opened (encode slotBytes output)
+schedules table budget opened output = gives (scheduling budget) (jobs table) opened (encode slot_bytes output)
 
 -- the same case with another room
-abbrev pub inRoom : ℕ → Case → Case
-inRoom room c = record { call = c .call; bytes = c .bytes; room = room; outcome = c .outcome }
+abbrev pub in_room : ℕ → Case → Case
+in_room room c = record { call = c.call; bytes = c.bytes; room = room; outcome = c.outcome }
 
 -- refused with a number and openings, in so much room
-abbrev pub refusesIn : ℕ → Call → List ℕ → ℕ → ℕ → Case
-refusesIn room call bytes number opened = record { call = call; bytes = bytes; room = room; outcome = refused number opened }
+abbrev pub refuses_in : ℕ → Call → List ℕ → ℕ → ℕ → Case
+refuses_in room call bytes number opened = record { call = call; bytes = bytes; room = room; outcome = refused number opened }
 
 -- refused with ample room: the largest output is 48 + 1,536 records
 abbrev pub refuses : Call → List ℕ → ℕ → ℕ → Case
-refuses = refusesIn 19008
+refuses = refuses_in 19008
 
 -- two lists of bytes are the same
-unfoldable pub sameBytes : List ℕ → List ℕ → Bool
-sameBytes [] [] = true
-sameBytes [] (y ∷ ys) = false
-sameBytes (x ∷ xs) [] = false
-sameBytes (x ∷ xs) (y ∷ ys) = eqb x y && sameBytes xs ys
+unfoldable pub same_bytes : List ℕ → List ℕ → Bool
+same_bytes [] [] = true
+same_bytes [] (y ∷ ys) = false
+same_bytes (x ∷ xs) [] = false
+same_bytes (x ∷ xs) (y ∷ ys) = eqb x y && same_bytes xs ys
 
 -- two outcomes are the same
-unfoldable pub sameOutcome : Outcome → Outcome → Bool
-sameOutcome a b = eqb (a .number) (b .number) && eqb (a .openings) (b .openings) && sameBytes (a .bytes) (b .bytes)
+unfoldable pub same_outcome : Outcome → Outcome → Bool
+same_outcome a b = eqb a.number b.number && eqb a.openings b.openings && same_bytes a.bytes b.bytes
 
 -- a case passes, where this is what each call comes to
-unfoldable pub passesBy : (Call → List ℕ → ℕ → Outcome) → Case → Bool
-passesBy comesTo c = sameOutcome (comesTo (c .call) (c .bytes) (c .room)) (c .outcome)
+unfoldable pub passes_by : (Call → List ℕ → ℕ → Outcome) → Case → Bool
+passes_by comes_to c = same_outcome (comes_to c.call c.bytes c.room) c.outcome
 
 -- every case of a table passes
-unfoldable pub allPass : (Call → List ℕ → ℕ → Outcome) → List Case → Bool
-allPass comesTo = all (passesBy comesTo)
+unfoldable pub all_pass : (Call → List ℕ → ℕ → Outcome) → List Case → Bool
+all_pass comes_to = all (passes_by comes_to)
 
 -- the call is expanding
-abbrev pub isExpanding : Call → Bool
-isExpanding expanding = true
-isExpanding normalising = false
-isExpanding (scheduling budget) = false
+abbrev pub is_expanding : Call → Bool
+is_expanding expanding = true
+is_expanding normalising = false
+is_expanding (scheduling budget) = false
 
 -- the call is normalising
-abbrev pub isNormalising : Call → Bool
-isNormalising expanding = false
-isNormalising normalising = true
-isNormalising (scheduling budget) = false
+abbrev pub is_normalising : Call → Bool
+is_normalising expanding = false
+is_normalising normalising = true
+is_normalising (scheduling budget) = false
 
 -- the call is scheduling
-abbrev pub isScheduling : Call → Bool
-isScheduling expanding = false
-isScheduling normalising = false
-isScheduling (scheduling budget) = true
+abbrev pub is_scheduling : Call → Bool
+is_scheduling expanding = false
+is_scheduling normalising = false
+is_scheduling (scheduling budget) = true
 
 -- scheduling's budget
-abbrev pub budgetOf : Call → ℕ
-budgetOf expanding = 0
-budgetOf normalising = 0
-budgetOf (scheduling budget) = budget
+abbrev pub budget_of : Call → ℕ
+budget_of expanding = 0
+budget_of normalising = 0
+budget_of (scheduling budget) = budget
 
 -- the cases of a table that a layer can judge by itself
-unfoldable pub ofCalls : (Call → Bool) → List Case → List Case
-ofCalls these = keep (λ c. these (c .call))
+unfoldable pub of_calls : (Call → Bool) → List Case → List Case
+of_calls these = keep (λ c. these c.call)

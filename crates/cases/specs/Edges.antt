@@ -1,29 +1,27 @@
 -- Both sides of each bound that A to L leave untold, and the bytes of the records written out, by hand from 01.
-use Prim.Native.Nat.{ℕ}
-use mathlib.Core.List.{List, [], _∷_, _++_}
-use lib.ListN.{replicate}
-use Rattle·records.specs.declared.PassRecord.{PassRecord}
-use Rattle·records.specs.declared.JobRecord.{JobRecord}
-use Rattle·cases·specs.specs.Case.{Case, expanding, normalising, scheduling, gives, expands, normalises, schedules, refuses, refusesIn, inRoom, p, f, j, l, s, passes, jobs}
+use Rattle.std.specs.Prelude.{ℕ, List, [], ◌∷◌, ◌++◌, replicate}
+use Rattle.records.specs.declared.PassRecord.{PassRecord}
+use Rattle.records.specs.declared.JobRecord.{JobRecord}
+use Rattle.cases.specs.Case.{Case, expanding, normalising, scheduling, gives, expands, normalises, schedules, refuses, refuses_in, in_room, p, f, j, l, s, passes, jobs}
 
 -- the example's tables and its schedule as plain bytes
-abbrev passBytes : List ℕ
-passBytes =
+abbrev pass_bytes : List ℕ
+pass_bytes =
     0x50 ∷ 0 ∷ 0x2c ∷ 0x01 ∷ 0xe8 ∷ 0x03 ∷ 0 ∷ 0 ∷ 0xe8 ∷ 0x03 ∷ 0 ∷ 0
     ∷ 0x50 ∷ 1 ∷ 0x64 ∷ 0x00 ∷ 0xf4 ∷ 0x01 ∷ 0 ∷ 0 ∷ 0xf4 ∷ 0x01 ∷ 0 ∷ 0
     ∷ 0x46 ∷ 0 ∷ 1 ∷ 0 ∷ 0x32 ∷ 0x00 ∷ 0 ∷ 0 ∷ 0 ∷ 0 ∷ 0 ∷ 0
     ∷ []
 
-abbrev jobBytes : List ℕ
-jobBytes =
+abbrev job_bytes : List ℕ
+job_bytes =
     0x4a ∷ 0 ∷ 0x2c ∷ 0x01 ∷ 0x00 ∷ 0x00 ∷ 0xe8 ∷ 0x03 ∷ 0 ∷ 0 ∷ 0 ∷ 0
     ∷ 0x4a ∷ 1 ∷ 0x64 ∷ 0x00 ∷ 0x00 ∷ 0x00 ∷ 0xf4 ∷ 0x01 ∷ 0 ∷ 0 ∷ 0 ∷ 0
     ∷ 0x4a ∷ 2 ∷ 0x64 ∷ 0x00 ∷ 0xf4 ∷ 0x01 ∷ 0xe8 ∷ 0x03 ∷ 0 ∷ 0 ∷ 0 ∷ 0
     ∷ 0x4c ∷ 0 ∷ 1 ∷ 0 ∷ 0x32 ∷ 0x00 ∷ 0 ∷ 0 ∷ 0 ∷ 0 ∷ 0 ∷ 0
     ∷ []
 
-abbrev slotBytes : List ℕ
-slotBytes =
+abbrev slot_bytes : List ℕ
+slot_bytes =
     0x53 ∷ 0 ∷ 0x00 ∷ 0x00 ∷ 0x2c ∷ 0x01 ∷ 0 ∷ 0 ∷ 0 ∷ 0 ∷ 0 ∷ 0
     ∷ 0x53 ∷ 1 ∷ 0x5e ∷ 0x01 ∷ 0xc2 ∷ 0x01 ∷ 0 ∷ 0 ∷ 0 ∷ 0 ∷ 0 ∷ 0
     ∷ 0x53 ∷ 2 ∷ 0xf4 ∷ 0x01 ∷ 0x58 ∷ 0x02 ∷ 0 ∷ 0 ∷ 0 ∷ 0 ∷ 0 ∷ 0
@@ -45,8 +43,8 @@ bad table number = refuses expanding (passes table) number 0
 unfoldable pub edges : List Case
 edges =
     -- the bytes themselves
-    gives expanding passBytes 0 jobBytes
-    ∷ gives (scheduling 4) jobBytes 4 slotBytes
+    gives expanding pass_bytes 0 job_bytes
+    ∷ gives (scheduling 4) job_bytes 4 slot_bytes
     -- 1: one record over the longest table; that one is read
     ∷ refuses normalising (replicate 49164 0) 1 0
     ∷ refuses normalising (replicate 49152 0) 2 0
@@ -76,9 +74,9 @@ edges =
     -- a cycle that is no period, and a flow whose target has a phase: instances match by the clock, not by release
     ∷ expands (p 0 1 4 0 4 ∷ p 1 1 6 3 3 ∷ f 0 1 0 ∷ []) (j 0 1 0 4 ∷ j 1 1 4 8 ∷ j 2 1 8 12 ∷ j 3 1 3 6 ∷ j 4 1 9 12 ∷ l 0 3 0 ∷ [])
     -- more room than the records need
-    ∷ inRoom 19008 (expands (p 0 1 1 0 1 ∷ []) (j 0 1 0 1 ∷ []))
-    ∷ inRoom 19008 (normalises (j 0 1 0 9 ∷ []) (j 0 1 0 9 ∷ []))
-    ∷ inRoom 19008 (schedules (j 0 1 0 9 ∷ []) 2 2 (s 0 0 1 ∷ []))
+    ∷ in_room 19008 (expands (p 0 1 1 0 1 ∷ []) (j 0 1 0 1 ∷ []))
+    ∷ in_room 19008 (normalises (j 0 1 0 9 ∷ []) (j 0 1 0 9 ∷ []))
+    ∷ in_room 19008 (schedules (j 0 1 0 9 ∷ []) 2 2 (s 0 0 1 ∷ []))
     -- jobs and links out of order, chains of three links and a ring of three
     ∷ normalises (l 3 1 0 ∷ l 1 0 0 ∷ l 0 2 0 ∷ j 3 1 0 100 ∷ j 1 1 0 100 ∷ j 0 1 0 100 ∷ j 2 1 0 100 ∷ [])
     (j 0 1 2 99 ∷ j 1 1 1 98 ∷ j 2 1 3 100 ∷ j 3 1 0 97 ∷ l 0 2 0 ∷ l 1 0 0 ∷ l 1 2 1 ∷ l 3 0 1 ∷ l 3 1 0 ∷ l 3 2 2 ∷ [])
@@ -94,9 +92,9 @@ edges =
     -- a latency of 48,000 is no 4
     ∷ refuses normalising (jobs (j 0 1 0 9 ∷ j 1 1 0 9 ∷ l 0 1 48000 ∷ [])) 8 0
     -- 7 and 8 come before 9
-    ∷ refusesIn 0 (scheduling 0) (jobs (j 0 4 0 3 ∷ [])) 8 0
-    ∷ refusesIn 0 (scheduling 0) (jobs (j 0 1 0 9 ∷ j 1 1 0 9 ∷ l 0 1 0 ∷ l 1 0 0 ∷ [])) 7 0
-    ∷ refusesIn 0 normalising (jobs (j 0 1 0 9 ∷ j 1 1 0 9 ∷ l 0 1 0 ∷ l 1 0 0 ∷ [])) 7 0
+    ∷ refuses_in 0 (scheduling 0) (jobs (j 0 4 0 3 ∷ [])) 8 0
+    ∷ refuses_in 0 (scheduling 0) (jobs (j 0 1 0 9 ∷ j 1 1 0 9 ∷ l 0 1 0 ∷ l 1 0 0 ∷ [])) 7 0
+    ∷ refuses_in 0 normalising (jobs (j 0 1 0 9 ∷ j 1 1 0 9 ∷ l 0 1 0 ∷ l 1 0 0 ∷ [])) 7 0
     -- 3: a number given twice; 4: cost 0, a deadline or a latency over 48,000; 5: from a job that is not there; 8: deadline 0
     ∷ both (j 5 1 0 9 ∷ l 5 6 0 ∷ j 6 1 0 9 ∷ j 5 1 0 9 ∷ []) 3
     ++ both (j 0 0 0 9 ∷ []) 4

@@ -1,16 +1,14 @@
 -- Cases K and L of 01, the example's expansion, and the rows that tell misreadings apart which A to L do not, worked by hand from 01.
-use Prim.Native.Nat.{ℕ, _+_, _*_}
-use mathlib.Core.List.{List, [], _∷_, _++_, map}
-use lib.ListN.{replicate}
-use Rattle·laws.specs.Lists.{count}
-use Rattle·records.specs.declared.PassRecord.{PassRecord}
-use Rattle·records.specs.declared.JobRecord.{JobRecord}
-use Rattle·cases·specs.specs.Case.{Case, Call, expanding, normalising, scheduling, expands, normalises, schedules, refuses, refusesIn, p, f, j, l, s, passes, jobs}
-use Rattle·cases·specs.specs.Starred.{exampleJobs}
+use Rattle.std.specs.Prelude.{ℕ, ◌+◌, ◌*◌, List, [], ◌∷◌, ◌++◌, map, replicate}
+use Rattle.laws.specs.Lists.{count}
+use Rattle.records.specs.declared.PassRecord.{PassRecord}
+use Rattle.records.specs.declared.JobRecord.{JobRecord}
+use Rattle.cases.specs.Case.{Case, Call, expanding, normalising, scheduling, expands, normalises, schedules, refuses, refuses_in, p, f, j, l, s, passes, jobs}
+use Rattle.cases.specs.Starred.{example_jobs}
 
 -- the example of the print program: P 0 cost 300, period 1000; P 1 cost 100, period 500; F 0 to 1, latency 50
-abbrev examplePasses : List PassRecord
-examplePasses = p 0 300 1000 0 1000 ∷ p 1 100 500 0 500 ∷ f 0 1 50 ∷ []
+abbrev example_passes : List PassRecord
+example_passes = p 0 300 1000 0 1000 ∷ p 1 100 500 0 500 ∷ f 0 1 50 ∷ []
 
 -- one pass of cost 1, phase 0, finish 1, by its period
 abbrev alone : ℕ → List PassRecord
@@ -21,16 +19,16 @@ abbrev two : ℕ → ℕ → List PassRecord
 two a b = p 0 1 a 0 1 ∷ p 1 1 b 0 1 ∷ []
 
 -- four jobs of cost 1 with wide windows, and links
-abbrev pub fourJobs : List JobRecord → List JobRecord
-fourJobs links = j 0 1 0 100 ∷ j 1 1 0 100 ∷ j 2 1 0 100 ∷ j 3 1 0 100 ∷ links
+abbrev pub four_jobs : List JobRecord → List JobRecord
+four_jobs links = j 0 1 0 100 ∷ j 1 1 0 100 ∷ j 2 1 0 100 ∷ j 3 1 0 100 ∷ links
 
 -- two links 0 to 1, of latency 3 and then 1
-abbrev pub strongFirst : List JobRecord
-strongFirst = fourJobs (l 0 1 3 ∷ l 0 1 1 ∷ [])
+abbrev pub strong_first : List JobRecord
+strong_first = four_jobs (l 0 1 3 ∷ l 0 1 1 ∷ [])
 
 -- of latency 1 and then 3
-abbrev pub strongLast : List JobRecord
-strongLast = fourJobs (l 0 1 1 ∷ l 0 1 3 ∷ [])
+abbrev pub strong_last : List JobRecord
+strong_last = four_jobs (l 0 1 1 ∷ l 0 1 3 ∷ [])
 
 -- eleven bytes, to each call
 abbrev eleven : Call → Case
@@ -54,17 +52,17 @@ further =
     ∷ refuses normalising (jobs (j 48 1 0 100 ∷ [])) 3 0
     ∷ refuses normalising (jobs (j 0 1 0 100 ∷ l 0 200 0 ∷ [])) 5 0
     -- the example, as 01 expands it
-    ∷ expands examplePasses exampleJobs
+    ∷ expands example_passes example_jobs
     -- never going back from the first open child
     ∷ schedules (j 0 1 0 4 ∷ j 1 2 0 4 ∷ j 2 1 2 3 ∷ []) 5 5 (s 1 0 2 ∷ s 2 2 3 ∷ s 0 3 4 ∷ [])
     -- the written window in the test for remaining jobs
     ∷ refuses (scheduling 9) (jobs (j 0 2 0 4 ∷ j 1 1 0 1 ∷ j 2 1 0 3 ∷ l 0 2 0 ∷ [])) 10 0
     ∷ schedules (j 0 1 1 2 ∷ j 1 1 0 3 ∷ l 1 0 0 ∷ []) 3 3 (s 1 0 1 ∷ s 0 1 2 ∷ [])
     -- the first or the last of repeated links in place of the strongest
-    ∷ normalises strongFirst (j 0 1 0 96 ∷ j 1 1 4 100 ∷ j 2 1 0 100 ∷ j 3 1 0 100 ∷ l 0 1 3 ∷ [])
-    ∷ normalises strongLast (j 0 1 0 96 ∷ j 1 1 4 100 ∷ j 2 1 0 100 ∷ j 3 1 0 100 ∷ l 0 1 3 ∷ [])
+    ∷ normalises strong_first (j 0 1 0 96 ∷ j 1 1 4 100 ∷ j 2 1 0 100 ∷ j 3 1 0 100 ∷ l 0 1 3 ∷ [])
+    ∷ normalises strong_last (j 0 1 0 96 ∷ j 1 1 4 100 ∷ j 2 1 0 100 ∷ j 3 1 0 100 ∷ l 0 1 3 ∷ [])
     -- links ordered by to and then from, and records that stand in another order than by number
-    ∷ normalises (l 1 2 0 ∷ l 0 3 0 ∷ fourJobs []) (j 0 1 0 99 ∷ j 1 1 0 99 ∷ j 2 1 1 100 ∷ j 3 1 1 100 ∷ l 0 3 0 ∷ l 1 2 0 ∷ [])
+    ∷ normalises (l 1 2 0 ∷ l 0 3 0 ∷ four_jobs []) (j 0 1 0 99 ∷ j 1 1 0 99 ∷ j 2 1 1 100 ∷ j 3 1 1 100 ∷ l 0 3 0 ∷ l 1 2 0 ∷ [])
     -- numbering jobs in table order
     ∷ expands (p 5 7 10 0 10 ∷ p 2 3 5 0 5 ∷ []) (j 0 3 0 5 ∷ j 1 3 5 10 ∷ j 2 7 0 10 ∷ [])
     -- matching only i = j, or only i = 1, and a flow's repeat left out
@@ -73,11 +71,11 @@ further =
     -- phase left out of the release, or counted twice
     ∷ expands (p 0 2 10 3 4 ∷ p 1 1 20 0 20 ∷ []) (j 0 2 3 7 ∷ j 1 2 13 17 ∷ j 2 1 0 20 ∷ [])
     -- one byte short of the room, which comes before 10 and 11 and after 7 and 8
-    ∷ refusesIn 47 expanding (passes examplePasses) 9 0
-    ∷ refusesIn 47 normalising (jobs exampleJobs) 9 0
-    ∷ refusesIn 35 (scheduling 0) (jobs exampleJobs) 9 0
-    ∷ refusesIn 23 (scheduling 0) (jobs (j 0 2 0 3 ∷ j 1 2 0 3 ∷ [])) 9 0
-    ∷ refusesIn 0 normalising (jobs (j 0 4 0 3 ∷ [])) 8 0
+    ∷ refuses_in 47 expanding (passes example_passes) 9 0
+    ∷ refuses_in 47 normalising (jobs example_jobs) 9 0
+    ∷ refuses_in 35 (scheduling 0) (jobs example_jobs) 9 0
+    ∷ refuses_in 23 (scheduling 0) (jobs (j 0 2 0 3 ∷ j 1 2 0 3 ∷ [])) 9 0
+    ∷ refuses_in 0 normalising (jobs (j 0 4 0 3 ∷ [])) 8 0
     -- a kind that is not of this table, and a z byte that is not zero, before the 3 of another record
     ∷ refuses normalising (jobs (j 99 1 0 1 ∷ []) ++ passes (p 0 1 1 0 1 ∷ [])) 2 0
     ∷ refuses expanding (passes (p 99 1 1 0 1 ∷ []) ++ replicate 11 70 ++ 0 ∷ []) 2 0

@@ -1,29 +1,27 @@
 -- A table's jobs and links as the code holds them: arrays by job number, and a square of the strongest links.
-use Prim.Native.Nat.{ℕ}
-use mathlib.Core.Path.{_≡_}
-use mathlib.Core.List.{List, map}
-use Rattle·laws.specs.Lists.{any, count}
-use Rattle·records.specs.declared.JobRecord.{JobRecord}
-use Rattle·jobs·specs.specs.Judge.{isJob}
-use Rattle·jobs·specs.specs.Jobs.{cost, release, deadline, strongest}
-use Rattle·jobs·specs.specs.Call.{jobTable, jobsNumber}
-use Rattle·jobs·specs.specs.declared.Jobs.{Jobs}
-use Rattle·jobs·specs.specs.declared.Judged.{Judged}
+use Rattle.std.specs.Prelude.{ℕ, ◌≡◌, List, map}
+use Rattle.laws.specs.Lists.{any, count}
+use Rattle.records.specs.declared.JobRecord.{JobRecord}
+use Rattle.jobs.specs.Judge.{is_job}
+use Rattle.jobs.specs.Jobs.{cost, release, deadline, strongest}
+use Rattle.jobs.specs.Call.{job_table, jobs_number}
+use Rattle.jobs.specs.declared.Jobs.{Jobs}
+use Rattle.jobs.specs.declared.Judged.{Judged}
 
 -- the jobs by number: 0 where there is none
-unfoldable pub jobsOf : List JobRecord → Jobs
-jobsOf table = record {
-  present = map (λ n. any (isJob n) table) (count 0 48);
+unfoldable pub jobs_of : List JobRecord → Jobs
+jobs_of table = record {
+  present = map (λ n. any (is_job n) table) (count 0 48);
   cost = map (cost table) (count 0 48);
   release = map (release table) (count 0 48);
   deadline = map (deadline table) (count 0 48);
 }
 
 -- the square of the strongest links: one more than the latency, 0 where there is none
-unfoldable pub linksOf : List JobRecord → List (List ℕ)
-linksOf table = map (λ i. map (strongest table i) (count 0 48)) (count 0 48)
+unfoldable pub links_of : List JobRecord → List (List ℕ)
+links_of table = map (λ i. map (strongest table i) (count 0 48)) (count 0 48)
 
 -- what judging a table's bytes answers: the lowest of 1 to 5 that holds, or 0 and then its jobs
 pub record JudgedAs (bytes : List ℕ) (answer : Judged) : Type 0 where
-  pub number : answer .number ≡ jobsNumber bytes 0
-  pub jobs : answer .number ≡ 0 → answer .jobs ≡ jobsOf (jobTable bytes)
+  pub number : answer.number ≡ jobs_number bytes 0
+  pub jobs : answer.number ≡ 0 → answer.jobs ≡ jobs_of (job_table bytes)

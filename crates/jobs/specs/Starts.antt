@@ -1,20 +1,18 @@
 -- Start times, chains and rings in 01's own words. A choice of start times gives each job number its start.
-use Prim.Native.Nat.{ℕ, _+_, _≤_}
-use mathlib.Core.Path.{_≡_}
-use mathlib.Core.Logic.{_↔_, _⊎_}
-use mathlib.Core.List.{List, List·Memᴰ}
-use Rattle·laws.specs.Lists.{Every}
-use Rattle·records.specs.Record.{link}
-use Rattle·records.specs.declared.Job.{Job}
-use Rattle·records.specs.declared.JobRecord.{JobRecord}
-use Rattle·records.specs.declared.JobRecord.the-variants.{J, L}
-use Rattle·jobs·specs.specs.Jobs.{cost}
+use Rattle.std.specs.Prelude.{ℕ, ◌+◌, ◌≤◌, ◌≡◌, ◌↔◌, ◌⊎◌}
+use mathlib.Core.List.{List, Memᴰ}
+use Rattle.laws.specs.Lists.{Every}
+use Rattle.records.specs.Record.{link}
+use Rattle.records.specs.declared.Job.{Job}
+use Rattle.records.specs.declared.JobRecord.{JobRecord}
+use Rattle.records.specs.declared.JobRecord.TheVariants.{J, L}
+use Rattle.jobs.specs.Jobs.{cost}
 
 -- what a record asks of start times: "every job starts at or after its release and ends (start + cost) by its deadline,
 -- and for every link the to job starts at or after the from job's end plus the latency"
 abbrev pub Meets : List JobRecord → (ℕ → ℕ) → JobRecord → Type 0
-Meets table start (J j) = (j .release ≤ start (j .number)) × (start (j .number) + j .cost ≤ j .deadline)
-Meets table start (L l) = start (l .from) + cost table (l .from) + l .latency ≤ start (l .to)
+Meets table start (J j) = (j.release ≤ start j.number) × (start j.number + j.cost ≤ j.deadline)
+Meets table start (L l) = start l.from + cost table l.from + l.latency ≤ start l.to
 
 -- "Start times are permitted when .."
 unfoldable pub Permitted : List JobRecord → (ℕ → ℕ) → Type 0
@@ -22,16 +20,16 @@ Permitted table start = Every (Meets table start) table
 
 -- two jobs do not overlap on the core
 abbrev pub Apart : (ℕ → ℕ) → Job → Job → Type 0
-Apart start a b = (start (a .number) + a .cost ≤ start (b .number)) ⊎ (start (b .number) + b .cost ≤ start (a .number))
+Apart start a b = (start a.number + a.cost ≤ start b.number) ⊎ (start b.number + b.cost ≤ start a.number)
 
 -- demand 2: "whole-number starts" that meet "every release, deadline and link with no two jobs overlapping"
 pub record Feasible (table : List JobRecord) (start : ℕ → ℕ) : Type 0 where
   pub permitted : Permitted table start
-  pub apart : (a b : Job) → List·Memᴰ (J a) table → List·Memᴰ (J b) table → (a .number ≡ b .number → ⊥) → Apart start a b
+  pub apart : (a b : Job) → Memᴰ (J a) table → Memᴰ (J b) table → (a.number ≡ b.number → ⊥) → Apart start a b
 
 -- the table holds a job with this number and this cost
 abbrev pub HasCost : List JobRecord → ℕ → ℕ → Type 0
-HasCost table n c = (j : Job) × List·Memᴰ (J j) table × (j .number ≡ n) × (j .cost ≡ c)
+HasCost table n c = (j : Job) × Memᴰ (J j) table × (j.number ≡ n) × (j.cost ≡ c)
 
 -- demand 3: "the same job numbers with the same costs"
 abbrev pub SameJobs : List JobRecord → List JobRecord → Type 0
@@ -43,8 +41,8 @@ SameStarts t u = (start : ℕ → ℕ) → Permitted t start ↔ Permitted u sta
 
 -- a chain of links from i to j, and its sum of (cost + latency): one link, or a link and a chain that follows it
 pub data Chain (table : List JobRecord) : ℕ → ℕ → ℕ → Type 0 where
-  one : {i j l : ℕ} → List·Memᴰ (L (link i j l)) table → Chain table i j (cost table i + l)
-  follow : {i k j l w : ℕ} → List·Memᴰ (L (link i k l)) table → Chain table k j w → Chain table i j (cost table i + l + w)
+  one : {i j l : ℕ} → Memᴰ (L (link i j l)) table → Chain table i j (cost table i + l)
+  follow : {i k j l w : ℕ} → Memᴰ (L (link i k l)) table → Chain table k j w → Chain table i j (cost table i + l + w)
 
 -- "the largest sum of (cost + latency) along any chain of links from i to j"
 pub record Gap (table : List JobRecord) (i j gap : ℕ) : Type 0 where

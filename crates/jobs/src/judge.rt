@@ -1,34 +1,25 @@
 // Judging a job table: the lowest of 1 to 5 that holds, and its jobs where none does.
 // 2 is looked for first; in the loops after it the else branch of a read is proved never to be taken.
-use crate::Jobs;
-use crate::Judged;
-use crate::load::is_present;
-use crate::load::load_jobs;
-use crate::load::no_jobs;
-use records::Job;
-use records::JobRead;
-use records::JobRecord;
-use records::Link;
+ghost use Rattle.std.specs.Prelude.{◌≡◌, List, ◌*◌, length};
+ghost use Rattle.std.proofs.Math.Option.{none};
+ghost use Rattle.records.specs.declared.JobRecord.{JobRecord};
+ghost use Rattle.records.specs.declared.JobRecord.TheVariants.{J, L};
+ghost use Rattle.records.specs.Record.{in_jobs};
+ghost use Rattle.records.specs.Table.{read_all, unreadable, as_found};
+ghost use Rattle.jobs.specs.Judge.{bad_value, loose_link, fault3, fault4, fault5};
+ghost use Rattle.jobs.specs.Call.{job_table};
+ghost use Rattle.jobs.specs.Arrays.{jobs_of, JudgedAs};
+
+use crate::load::{is_present, load_jobs, no_jobs};
+use crate::{Jobs, Judged};
 use records::read::read_job;
-use records::table::Found;
-use records::table::bad_length;
-ghost use mathlib.Core.Path.{_≡_};
-ghost use mathlib.Core.List.{List};
-ghost use mathlib.Core.Option.{none};
-ghost use Prim.Native.Nat.{_*_};
-ghost use lib.ListN.{length};
-ghost use Rattle·records.specs.declared.JobRecord.{JobRecord};
-ghost use Rattle·records.specs.declared.JobRecord.the-variants.{J, L};
-ghost use Rattle·records.specs.Record.{inJobs};
-ghost use Rattle·records.specs.Table.{readAll, unreadable, asFound};
-ghost use Rattle·jobs·specs.specs.Judge.{badValue, looseLink, fault3, fault4, fault5};
-ghost use Rattle·jobs·specs.specs.Call.{jobTable};
-ghost use Rattle·jobs·specs.specs.Arrays.{jobsOf, JudgedAs};
+use records::table::{Found, bad_length};
+use records::{Job, JobRead, JobRecord, Link};
 
 // 2: the first record that cannot be read.
 fn first_unreadable(s: &[u8], n: usize) -> Found
-    requires { ⌜ length (now s) ≡ 12 * n ⌝ }
-    ensures { λ r. ⌜ r ≡ asFound (unreadable (readAll inJobs (now (s .entry)))) ⌝ }
+    requires { length s.now ≡ 12 * n }
+    ensures { result ≡ as_found (unreadable (read_all in_jobs s.now)) }
 {
     let mut i: usize = 0;
     while i < n {
@@ -42,7 +33,7 @@ fn first_unreadable(s: &[u8], n: usize) -> Found
 
 // 4: a job of cost 0, or with a deadline over 48,000.
 fn bad_job(j: Job) -> bool
-    ensures { λ b. ⌜ b ≡ badValue (J j) ⌝ }
+    ensures { result ≡ bad_value (J j) }
 {
     if j.cost == 0 {
         return true;
@@ -52,7 +43,7 @@ fn bad_job(j: Job) -> bool
 
 // 4: such a job, or a link with a latency over 48,000.
 fn bad_value(r: JobRecord) -> bool
-    ensures { λ b. ⌜ b ≡ badValue r ⌝ }
+    ensures { result ≡ bad_value r }
 {
     match r {
         JobRecord::J(j) => bad_job(j),
@@ -62,8 +53,8 @@ fn bad_value(r: JobRecord) -> bool
 
 // 4: the first such record.
 fn first_bad_value(s: &[u8], n: usize) -> Found
-    requires { ⌜ (length (now s) ≡ 12 * n) × (unreadable (readAll inJobs (now s)) ≡ none) ⌝ }
-    ensures { λ r. ⌜ r ≡ asFound (fault4 (jobTable (now (s .entry)))) ⌝ }
+    requires { (length s.now ≡ 12 * n) × (unreadable (read_all in_jobs s.now) ≡ none) }
+    ensures { result ≡ as_found (fault4 (job_table s.now)) }
 {
     let mut i: usize = 0;
     while i < n {
@@ -80,7 +71,7 @@ fn first_bad_value(s: &[u8], n: usize) -> Found
 
 // 5: a link that names itself, or a job not in the table.
 fn loose_ends(present: &[bool; 48], l: Link) -> bool
-    ensures { λ b. ⌜ ((table : List JobRecord) → fault3 table ≡ none → now (present .entry) ≡ jobsOf table .present → b ≡ looseLink table (L l)) ⌝ }
+    ensures { (table : List JobRecord) → fault3 table ≡ none → present.now ≡ (jobs_of table).present → result ≡ loose_link table (L l) }
 {
     if l.from == l.to {
         return true;
@@ -93,7 +84,7 @@ fn loose_ends(present: &[bool; 48], l: Link) -> bool
 
 // 5: the record is such a link.
 fn loose_link(present: &[bool; 48], r: JobRecord) -> bool
-    ensures { λ b. ⌜ ((table : List JobRecord) → fault3 table ≡ none → now (present .entry) ≡ jobsOf table .present → b ≡ looseLink table r) ⌝ }
+    ensures { (table : List JobRecord) → fault3 table ≡ none → present.now ≡ (jobs_of table).present → result ≡ loose_link table r }
 {
     match r {
         JobRecord::J(_) => false,
@@ -103,9 +94,9 @@ fn loose_link(present: &[bool; 48], r: JobRecord) -> bool
 
 // 5: the first such record.
 fn first_loose(s: &[u8], n: usize, jobs: Jobs) -> Found
-    requires { ⌜ (length (now s) ≡ 12 * n) × (unreadable (readAll inJobs (now s)) ≡ none) ⌝ }
-    requires { ⌜ (fault3 (jobTable (now s)) ≡ none) × (jobs ≡ jobsOf (jobTable (now s))) ⌝ }
-    ensures { λ r. ⌜ r ≡ asFound (fault5 (jobTable (now (s .entry)))) ⌝ }
+    requires s_len { (length s.now ≡ 12 * n) × (unreadable (read_all in_jobs s.now) ≡ none) }
+    requires s_value { (fault3 (job_table s.now) ≡ none) × (jobs ≡ jobs_of (job_table s.now)) }
+    ensures { result ≡ as_found (fault5 (job_table s.now)) }
 {
     let mut i: usize = 0;
     while i < n {
@@ -122,7 +113,7 @@ fn first_loose(s: &[u8], n: usize, jobs: Jobs) -> Found
 
 // Refused: the number, and no jobs.
 fn refused(number: u32) -> Judged
-    ensures { λ r. ⌜ r .number ≡ number ⌝ }
+    ensures { result.number ≡ number }
 {
     Judged {
         number,
@@ -132,7 +123,7 @@ fn refused(number: u32) -> Judged
 
 // The lowest of 1 to 5 that holds, or 0 and the table's jobs.
 pub fn judge(s: &[u8]) -> Judged
-    ensures { λ r. ⌜ JudgedAs (now (s .entry)) r ⌝ }
+    ensures { JudgedAs s.now result }
 {
     if bad_length(s) {
         return refused(1);

@@ -1,27 +1,22 @@
 // The jobs of a table in arrays by number, and its links in a square.
 // Where all records are known to be readable, the else branch of a read is proved never to be taken.
+ghost use Rattle.std.specs.Prelude.{◌≡◌, List, [], ◌∷◌, false, ◌+◌, ◌*◌, ◌<◌, max, length, get_or, set};
+ghost use Rattle.std.proofs.Math.Option.{none};
+ghost use Rattle.records.specs.declared.JobRecord.{JobRecord};
+ghost use Rattle.records.specs.declared.JobRecord.TheVariants.{J, L};
+ghost use Rattle.records.specs.Record.{in_jobs};
+ghost use Rattle.records.specs.Table.{read_all, unreadable, as_found};
+ghost use Rattle.jobs.specs.Judge.{bad_number, fault3};
+ghost use Rattle.jobs.specs.Call.{job_table, jobs_number};
+ghost use Rattle.jobs.specs.Arrays.{jobs_of, links_of};
+
 use crate::Jobs;
-use records::Job;
-use records::JobRead;
-use records::JobRecord;
-use records::Link;
 use records::read::read_job;
 use records::table::Found;
-ghost use mathlib.Core.Path.{_≡_};
-ghost use mathlib.Core.List.{List, [], _∷_};
-ghost use mathlib.Core.Option.{none};
-ghost use mathlib.Core.Bool.{false};
-ghost use Prim.Native.Nat.{_+_, _*_, _<_, max};
-ghost use lib.ListN.{length, getD, set};
-ghost use Rattle·records.specs.declared.JobRecord.{JobRecord};
-ghost use Rattle·records.specs.declared.JobRecord.the-variants.{J, L};
-ghost use Rattle·records.specs.Record.{inJobs};
-ghost use Rattle·records.specs.Table.{readAll, unreadable, asFound};
-ghost use Rattle·jobs·specs.specs.Judge.{badNumber, fault3};
-ghost use Rattle·jobs·specs.specs.Call.{jobTable, jobsNumber};
-ghost use Rattle·jobs·specs.specs.Arrays.{jobsOf, linksOf};
+use records::{Job, JobRead, JobRecord, Link};
 
 // What loading the jobs answers: the first record at fault by 3, if there is one, and the jobs of the records before it.
+#[derive(Clone, Copy)]
 pub(crate) struct Loaded {
     pub(crate) fault: Found,
     pub(crate) jobs: Jobs,
@@ -29,7 +24,7 @@ pub(crate) struct Loaded {
 
 // No jobs.
 pub(crate) fn no_jobs() -> Jobs
-    ensures { λ r. ⌜ r ≡ jobsOf [] ⌝ }
+    ensures { result ≡ jobs_of [] }
 {
     Jobs {
         present: [false; 48],
@@ -41,7 +36,7 @@ pub(crate) fn no_jobs() -> Jobs
 
 // The mark of a number: there is a job with it.
 pub(crate) fn is_present(present: &[bool; 48], number: u8) -> bool
-    ensures { λ b. ⌜ ((table : List JobRecord) → now (present .entry) ≡ jobsOf table .present → b ≡ getD (jobsOf table .present) number false) ⌝ }
+    ensures { (table : List JobRecord) → present.now ≡ (jobs_of table).present → result ≡ get_or (jobs_of table).present number false }
 {
     let k = number as usize;
     if k < 48 {
@@ -52,7 +47,7 @@ pub(crate) fn is_present(present: &[bool; 48], number: u8) -> bool
 
 // 3: the number of a job is over 47, or that of a job before it.
 fn bad_number(present: &[bool; 48], r: JobRecord) -> bool
-    ensures { λ b. ⌜ ((before : List JobRecord) → now (present .entry) ≡ jobsOf before .present → b ≡ badNumber before r) ⌝ }
+    ensures { (before : List JobRecord) → present.now ≡ (jobs_of before).present → result ≡ bad_number before r }
 {
     match r {
         JobRecord::J(j) => {
@@ -68,8 +63,8 @@ fn bad_number(present: &[bool; 48], r: JobRecord) -> bool
 
 // The jobs with one more.
 fn with_job(jobs: Jobs, j: Job) -> Jobs
-    requires { ⌜ j .number < 48 ⌝ }
-    ensures { λ r. ⌜ ((before : List JobRecord) → jobs ≡ jobsOf before → r ≡ jobsOf (J j ∷ before)) ⌝ }
+    requires { j.number < 48 }
+    ensures { (before : List JobRecord) → jobs ≡ jobs_of before → result ≡ jobs_of (J j ∷ before) }
 {
     let k = j.number as usize;
     let mut t = jobs;
@@ -82,9 +77,9 @@ fn with_job(jobs: Jobs, j: Job) -> Jobs
 
 // The jobs of all records, or the first at fault by 3.
 pub(crate) fn load_jobs(s: &[u8], n: usize) -> Loaded
-    requires { ⌜ (length (now s) ≡ 12 * n) × (unreadable (readAll inJobs (now s)) ≡ none) ⌝ }
-    ensures { λ r. ⌜ r .fault ≡ asFound (fault3 (jobTable (now (s .entry)))) ⌝ }
-    ensures { λ r. ⌜ (fault3 (jobTable (now (s .entry))) ≡ none → r .jobs ≡ jobsOf (jobTable (now (s .entry)))) ⌝ }
+    requires { (length s.now ≡ 12 * n) × (unreadable (read_all in_jobs s.now) ≡ none) }
+    ensures fault_value { result.fault ≡ as_found (fault3 (job_table s.now)) }
+    ensures jobs_value { fault3 (job_table s.now) ≡ none → result.jobs ≡ jobs_of (job_table s.now) }
 {
     let mut jobs = no_jobs();
     let mut i: usize = 0;
@@ -114,15 +109,15 @@ pub(crate) fn load_jobs(s: &[u8], n: usize) -> Loaded
 
 // No links.
 fn no_links() -> [[u16; 48]; 48]
-    ensures { λ r. ⌜ r ≡ linksOf [] ⌝ }
+    ensures { result ≡ links_of [] }
 {
     [[0u16; 48]; 48]
 }
 
 // A row of links with one more: the strongest counts.
 fn with_link(row: [u16; 48], l: Link) -> [u16; 48]
-    requires { ⌜ (l .to < 48) × (l .latency < 65535) ⌝ }
-    ensures { λ r. ⌜ r ≡ set row (l .to) (max (l .latency + 1) (getD row (l .to) 0)) ⌝ }
+    requires { (l.to < 48) × (l.latency < 65535) }
+    ensures { result ≡ set row l.to (max (l.latency + 1) (get_or row l.to 0)) }
 {
     let to = l.to as usize;
     let strength = l.latency + 1;
@@ -135,8 +130,8 @@ fn with_link(row: [u16; 48], l: Link) -> [u16; 48]
 
 // The square of the strongest links of a table within the limits.
 pub fn load_links(s: &[u8]) -> [[u16; 48]; 48]
-    requires { ⌜ jobsNumber (now s) 0 ≡ 0 ⌝ }
-    ensures { λ r. ⌜ r ≡ linksOf (jobTable (now (s .entry))) ⌝ }
+    requires { jobs_number s.now 0 ≡ 0 }
+    ensures { result ≡ links_of (job_table s.now) }
 {
     let n = s.len() / 12;
     let mut links = no_links();

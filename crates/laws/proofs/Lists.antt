@@ -1,12 +1,12 @@
 -- Laws on lists and truth values that proofs of more than one crate cite. Each is by induction on its list, or by cases on its test; a law on `count` is proved from any first number on.
-use Prim.Native.Nat.{ℕ, zero, suc, _+_, _<_}
+use Prim.Native.Nat.{ℕ, zero, suc, ◌+◌, ◌<◌}
 use native.Mathlib.Omega.{arith}
-use mathlib.Core.Path.{_≡_, refl, ap, ap₂, _∙_}
-use mathlib.Core.Bool.{Bool, true, false, cond, and-eq-true-iff}
-use mathlib.Core.List.{List, [], _∷_, map}
+use mathlib.Core.Path.{◌≡◌, refl, ap, ap₂, ◌∙◌}
+use mathlib.Core.Bool.{Bool, true, false, cond, and-eq-true_iff}
+use mathlib.Core.List.{List, [], ◌∷◌, map}
 use mathlib.Core.Option.{Option, none, some}
-use lib.ListN.{length, getD, drop}
-use Rattle·laws·specs.specs.Lists.{count, all, Every}
+use lib.ListN.{length, get_or, drop}
+use Rattle.laws.specs.Lists.{count, all, Every}
 
 module _ {A : Type 0} where
   -- two lists are equally long and have equal elements at equal places
@@ -21,55 +21,55 @@ module _ {A : Type 0} where
   same [] [] h = refl
   same [] (y ∷ ys) h = absurd h
   same (x ∷ xs) [] h = absurd h
-  same (x ∷ xs) (y ∷ ys) h = ap₂ _∷_ (h .0) (same xs ys (h .1))
+  same (x ∷ xs) (y ∷ ys) h = ap₂ ◌∷◌ h.0 (same xs ys h.1)
 
   -- a test that passes on the whole list passes on every element
-  pub all-every : (p : A → Bool) (xs : List A) → all p xs ≡ true → Every (λ x. p x ≡ true) xs
-  all-every p [] h = tt
-  all-every p (x ∷ xs) h = let both = and-eq-true-iff (p x) (all p xs) .0 h in (both .0, all-every p xs (both .1))
+  pub all_every : (p : A → Bool) (xs : List A) → all p xs ≡ true → Every (λ x. p x ≡ true) xs
+  all_every p [] h = tt
+  all_every p (x ∷ xs) h = let both = (and-eq-true_iff (p x) (all p xs)).0 h in (both.0, all_every p xs both.1)
 
   -- a weaker property holds of every element too
-  pub every-weaker : (P Q : A → Type 0) → ((x : A) → P x → Q x) → (xs : List A) → Every P xs → Every Q xs
-  every-weaker P Q f [] h = tt
-  every-weaker P Q f (x ∷ xs) h = (f x (h .0), every-weaker P Q f xs (h .1))
+  pub every_weaker : (P Q : A → Type 0) → ((x : A) → P x → Q x) → (xs : List A) → Every P xs → Every Q xs
+  every_weaker P Q f [] h = tt
+  every_weaker P Q f (x ∷ xs) h = (f x h.0, every_weaker P Q f xs h.1)
 
   -- what holds of every element and of the default holds of whatever is looked up
-  pub every-getD : (P : A → Type 0) (xs : List A) (d : A) → P d → Every P xs → (k : ℕ) → P (getD xs k d)
-  every-getD P [] d p h k = p
-  every-getD P (x ∷ xs) d p h zero = h .0
-  every-getD P (x ∷ xs) d p h (suc k) = every-getD P xs d p (h .1) k
+  pub every_get_d : (P : A → Type 0) (xs : List A) (d : A) → P d → Every P xs → (k : ℕ) → P (get_or xs k d)
+  every_get_d P [] d p h k = p
+  every_get_d P (x ∷ xs) d p h zero = h.0
+  every_get_d P (x ∷ xs) d p h (suc k) = every_get_d P xs d p h.1 k
 
   -- what is left of a list after its first elements has the property too
-  pub every-drop : (P : A → Type 0) (n : ℕ) (xs : List A) → Every P xs → Every P (drop n xs)
-  every-drop P zero xs h = h
-  every-drop P (suc n) [] h = tt
-  every-drop P (suc n) (x ∷ xs) h = every-drop P n xs (h .1)
+  pub every_drop : (P : A → Type 0) (n : ℕ) (xs : List A) → Every P xs → Every P (drop n xs)
+  every_drop P zero xs h = h
+  every_drop P (suc n) [] h = tt
+  every_drop P (suc n) (x ∷ xs) h = every_drop P n xs h.1
 
   -- what a function gives at n numbers in a row has a property, if it has it at each number below their end
-  pub every-count : (P : A → Type 0) (f : ℕ → A) (m n : ℕ) → ((k : ℕ) → k < m + n → P (f k)) → Every P (map f (count m n))
-  every-count P f m zero h = tt
-  every-count P f m (suc n) h = (h m (omega arith), every-count P f (m + 1) n (λ k l. h k (omega arith)))
+  pub every_count : (P : A → Type 0) (f : ℕ → A) (m n : ℕ) → ((k : ℕ) → k < m + n → P (f k)) → Every P (map f (count m n))
+  every_count P f m zero h = tt
+  every_count P f m (suc n) h = (h m (omega arith), every_count P f (m + 1) n (λ k l. h k (omega arith)))
 
   -- a list is what a function gives at as many numbers in a row, if the function gives its elements
-  pub map-count : (f : ℕ → A) (m n : ℕ) (xs : List A) (d : A) → length xs ≡ n → ((k : ℕ) → k < n → f (m + k) ≡ getD xs k d) → map f (count m n) ≡ xs
-  map-count f m zero [] d e h = refl
-  map-count f m zero (x ∷ xs) d e h = absurd (omega arith)
-  map-count f m (suc n) [] d e h = absurd (omega arith)
-  map-count f m (suc n) (x ∷ xs) d e h = ap₂ _∷_ (ap f (omega arith) ∙ h 0 (omega arith)) (map-count f (m + 1) n xs d (omega arith) (λ k l. ap f (omega arith) ∙ h (suc k) (omega arith)))
+  pub map_count : (f : ℕ → A) (m n : ℕ) (xs : List A) (d : A) → length xs ≡ n → ((k : ℕ) → k < n → f (m + k) ≡ get_or xs k d) → map f (count m n) ≡ xs
+  map_count f m zero [] d e h = refl
+  map_count f m zero (x ∷ xs) d e h = absurd (omega arith)
+  map_count f m (suc n) [] d e h = absurd (omega arith)
+  map_count f m (suc n) (x ∷ xs) d e h = ap₂ ◌∷◌ (ap f (omega arith) ∙ h 0 (omega arith)) (map_count f (m + 1) n xs d (omega arith) (λ k l. ap f (omega arith) ∙ h (suc k) (omega arith)))
 
   -- whatever an optional value gives has a property
   abbrev pub Gives : (A → Type 0) → Option A → Type 0
   Gives P o = (r : A) → o ≡ some r → P r
 
   -- what gives nothing gives what one likes
-  pub gives-none : (P : A → Type 0) → Gives P none
-  gives-none P r e = let z : _≡_ {A = ℕ} 0 1 = cc in absurd (omega arith)
+  pub gives_none : (P : A → Type 0) → Gives P none
+  gives_none P r e = let z : ◌≡◌ {A = ℕ} 0 1 = cc in absurd (omega arith)
 
   -- a value with the property is given
-  pub gives-some : (P : A → Type 0) {x : A} → P x → Gives P (some x)
-  gives-some P {x} h r e = let same : x ≡ r = cc in rw same at h
+  pub gives_some : (P : A → Type 0) {x : A} → P x → Gives P (some x)
+  gives_some P {x} h r e = let same : x ≡ r = cc in rw same at h
 
   -- a choice gives what its branches give, the first of them where the test passes
-  pub gives-cond : {P : A → Type 0} {x y : Option A} (t : Bool) → (t ≡ true → Gives P x) → Gives P y → Gives P (cond t x y)
-  gives-cond true f g = f refl
-  gives-cond false f g = g
+  pub gives_cond : {P : A → Type 0} {x y : Option A} (t : Bool) → (t ≡ true → Gives P x) → Gives P y → Gives P (cond t x y)
+  gives_cond true f g = f refl
+  gives_cond false f g = g

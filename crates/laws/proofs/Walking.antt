@@ -1,15 +1,15 @@
 -- A loop that goes through a list place by place and stops at the first element at fault. At place i it has passed `take i`, and the rest is `drop i`;
 -- the first element at fault of the whole list is then that of the rest, judged with those passed before it, the last one first.
-use Prim.Native.Nat.{ℕ, zero, suc, _+_, _≤_}
+use Prim.Native.Nat.{ℕ, zero, suc, ◌+◌, ◌≤◌}
 use native.Mathlib.Numerals.{add-one}
 use native.Mathlib.Omega.{arith}
-use mathlib.Core.Path.{_≡_, refl, sym, ap, _∙_}
-use mathlib.Core.Bool.{Bool, true, false, _||_, or-assoc, or-comm, or-false}
-use mathlib.Core.List.{List, [], _∷_, _++_, reverse, reverseAux, reverse-append, List·Memᴰ, List·Memᴰ·head, Memᴰ·append-right}
+use mathlib.Core.Path.{◌≡◌, refl, sym, ap, ◌∙◌}
+use mathlib.Core.Bool.{Bool, true, false, ◌||◌, or_assoc, or_comm, or-false}
+use mathlib.Core.List.{List, [], ◌∷◌, ◌++◌, reverse, reverse_aux, reverse-append, Memᴰ}
 use mathlib.Core.Option.{none, some}
-use lib.ListN.{length, take, drop, drop-of-length-le, take-append-drop}
-use lib.Seq.{take-all}
-use Rattle·laws·specs.specs.Lists.{any, firstFault}
+use lib.ListN.{length, take, drop, drop_of_length-le, take-append-drop}
+use lib.Seq.{take_all}
+use Rattle.laws.specs.Lists.{any, first_fault}
 
 module _ {A : Type 0} where
   -- x is the next element at place i: the first of the rest, and the last of those passed one place on
@@ -18,74 +18,74 @@ module _ {A : Type 0} where
     pub passed : take (i + 1) xs ≡ take i xs ++ x ∷ []
 
   -- the element that the rest begins with is the next one
-  pub next-of : (xs : List A) (i : ℕ) {x : A} {ys : List A} → drop i xs ≡ x ∷ ys → Next xs i x
-  next-of xs i {x} {ys} e = record { rest = e ∙ ap (λ (l : List A). x ∷ l) (sym (rw add-one (others i xs e))); passed = rw add-one (first i xs e) }
+  pub next_of : (xs : List A) (i : ℕ) {x : A} {ys : List A} → drop i xs ≡ x ∷ ys → Next xs i x
+  next_of xs i {x} {ys} e = record { rest = e ∙ ap (λ (l : List A). x ∷ l) (sym (rw add-one (others i xs e))); passed = rw add-one (first i xs e) }
     where
       others : (i : ℕ) (xs : List A) → drop i xs ≡ x ∷ ys → drop (suc i) xs ≡ ys
-      others zero [] e = let z : _≡_ {A = ℕ} 0 1 = cc in absurd (omega arith)
+      others zero [] e = let z : ◌≡◌ {A = ℕ} 0 1 = cc in absurd (omega arith)
       others zero (z ∷ zs) e = cc
-      others (suc i) [] e = let z : _≡_ {A = ℕ} 0 1 = cc in absurd (omega arith)
+      others (suc i) [] e = let z : ◌≡◌ {A = ℕ} 0 1 = cc in absurd (omega arith)
       others (suc i) (z ∷ zs) e = others i zs e
 
       first : (i : ℕ) (xs : List A) → drop i xs ≡ x ∷ ys → take (suc i) xs ≡ take i xs ++ x ∷ []
-      first zero [] e = let z : _≡_ {A = ℕ} 0 1 = cc in absurd (omega arith)
+      first zero [] e = let z : ◌≡◌ {A = ℕ} 0 1 = cc in absurd (omega arith)
       first zero (z ∷ zs) e = let same : z ≡ x = cc in rw same
-      first (suc i) [] e = let z : _≡_ {A = ℕ} 0 1 = cc in absurd (omega arith)
+      first (suc i) [] e = let z : ◌≡◌ {A = ℕ} 0 1 = cc in absurd (omega arith)
       first (suc i) (z ∷ zs) e = ap (λ (l : List A). z ∷ l) (first i zs e)
 
   -- a test holds of some element of a reversed list exactly when it does of the list
-  pub any-reverse : (p : A → Bool) (xs : List A) → any p (reverse xs) ≡ any p xs
-  any-reverse p xs = go xs [] ∙ or-false (any p xs)
+  pub any_reverse : (p : A → Bool) (xs : List A) → any p (reverse xs) ≡ any p xs
+  any_reverse p xs = go xs [] ∙ or-false (any p xs)
     where
-      go : (xs ys : List A) → any p (reverseAux xs ys) ≡ (any p xs || any p ys)
+      go : (xs ys : List A) → any p (reverse_aux xs ys) ≡ (any p xs || any p ys)
       go [] ys = refl
-      go (x ∷ xs) ys = go xs (x ∷ ys) ∙ sym (or-assoc (any p xs) (p x) (any p ys)) ∙ ap (λ t. t || any p ys) (or-comm (any p xs) (p x))
+      go (x ∷ xs) ys = go xs (x ∷ ys) ∙ sym (or_assoc (any p xs) (p x) (any p ys)) ∙ ap (λ t. t || any p ys) (or_comm (any p xs) (p x))
 
   -- a test holds of some element of two lists that are joined
-  pub any-append : (p : A → Bool) (xs ys : List A) → any p (xs ++ ys) ≡ (any p xs || any p ys)
-  any-append p [] ys = refl
-  any-append p (x ∷ xs) ys = ap (λ t. p x || t) (any-append p xs ys) ∙ sym (or-assoc (p x) (any p xs) (any p ys))
+  pub any_append : (p : A → Bool) (xs ys : List A) → any p (xs ++ ys) ≡ (any p xs || any p ys)
+  any_append p [] ys = refl
+  any_append p (x ∷ xs) ys = ap (λ t. p x || t) (any_append p xs ys) ∙ sym (or_assoc (p x) (any p xs) (any p ys))
 
   -- the elements passed before place i, the last one first
   abbrev pub behind : ℕ → List A → List A
   behind i xs = reverse (take i xs)
 
   -- the next element is the first behind the next place
-  pub behind-next : (xs : List A) (i : ℕ) {x : A} → Next xs i x → behind (i + 1) xs ≡ x ∷ behind i xs
-  behind-next xs i {x} next = ap reverse (next .passed) ∙ reverse-append (take i xs) (x ∷ [])
+  pub behind_next : (xs : List A) (i : ℕ) {x : A} → Next xs i x → behind (i + 1) xs ≡ x ∷ behind i xs
+  behind_next xs i {x} next = ap reverse next.passed ∙ reverse-append (take i xs) (x ∷ [])
 
   -- at the end all elements are behind
-  pub behind-all : (xs : List A) (i : ℕ) → length xs ≤ i → behind i xs ≡ reverse xs
-  behind-all xs i h = ap reverse (take-all i xs h)
+  pub behind_all : (xs : List A) (i : ℕ) → length xs ≤ i → behind i xs ≡ reverse xs
+  behind_all xs i h = ap reverse (take_all i xs h)
 
   -- the next element is one of the list
-  pub next-member : (xs : List A) (i : ℕ) {x : A} → Next xs i x → List·Memᴰ x xs
-  next-member xs i {x} next =
-      let after : List·Memᴰ x (drop i xs) = rw (next .rest) (List·Memᴰ·head {x = x} refl) in
-      rw (take-append-drop i xs) at (Memᴰ·append-right (take i xs) after)
+  pub next_member : (xs : List A) (i : ℕ) {x : A} → Next xs i x → Memᴰ x xs
+  next_member xs i {x} next =
+      let after : Memᴰ x (drop i xs) = rw next.rest (mathlib.Core.List.Memᴰ.head {x = x} refl) in
+      rw (take-append-drop i xs) at (mathlib.Core.List.Memᴰ.append_right (take i xs) after)
 
 module _ {A : Type 0} (bad : List A → A → Bool) where
   -- where the first element is not at fault, the others decide
-  first-good : (before : List A) (place : ℕ) (x : A) (ys : List A) → bad before x ≡ false → firstFault bad before place (x ∷ ys) ≡ firstFault bad (x ∷ before) (place + 1) ys
-  first-good before place x ys good = rw (firstFault, good)
+  first_good : (before : List A) (place : ℕ) (x : A) (ys : List A) → bad before x ≡ false → first_fault bad before place (x ∷ ys) ≡ first_fault bad (x ∷ before) (place + 1) ys
+  first_good before place x ys good = rw (first_fault, good)
 
   -- where it is, its place is found
-  first-bad : (before : List A) (place : ℕ) (x : A) (ys : List A) → bad before x ≡ true → firstFault bad before place (x ∷ ys) ≡ some place
-  first-bad before place x ys at-fault = rw (firstFault, at-fault)
+  first_bad : (before : List A) (place : ℕ) (x : A) (ys : List A) → bad before x ≡ true → first_fault bad before place (x ∷ ys) ≡ some place
+  first_bad before place x ys at-fault = rw (first_fault, at-fault)
 
   module _ (xs : List A) where
     -- the first element at fault is that of the rest from place i on
     abbrev pub FaultFrom : ℕ → Type 0
-    FaultFrom i = firstFault bad [] 0 xs ≡ firstFault bad (behind i xs) i (drop i xs)
+    FaultFrom i = first_fault bad [] 0 xs ≡ first_fault bad (behind i xs) i (drop i xs)
 
     -- an element that is not at fault is passed
-    pub fault-step : (i : ℕ) {x : A} → Next xs i x → bad (behind i xs) x ≡ false → FaultFrom i → FaultFrom (i + 1)
-    fault-step i {x} next good e = e ∙ rw (next .rest, behind-next xs i next) (first-good (behind i xs) i x (drop (i + 1) xs) good)
+    pub fault_step : (i : ℕ) {x : A} → Next xs i x → bad (behind i xs) x ≡ false → FaultFrom i → FaultFrom (i + 1)
+    fault_step i {x} next good e = e ∙ rw (next.rest, behind_next xs i next) (first_good (behind i xs) i x (drop (i + 1) xs) good)
 
     -- an element at fault is the first one
-    pub fault-here : (i : ℕ) {x : A} → Next xs i x → bad (behind i xs) x ≡ true → FaultFrom i → firstFault bad [] 0 xs ≡ some i
-    fault-here i {x} next at-fault e = e ∙ rw (next .rest) (first-bad (behind i xs) i x (drop (i + 1) xs) at-fault)
+    pub fault_here : (i : ℕ) {x : A} → Next xs i x → bad (behind i xs) x ≡ true → FaultFrom i → first_fault bad [] 0 xs ≡ some i
+    fault_here i {x} next at-fault e = e ∙ rw next.rest (first_bad (behind i xs) i x (drop (i + 1) xs) at-fault)
 
     -- at the end there is none
-    pub fault-end : (i : ℕ) → length xs ≤ i → FaultFrom i → firstFault bad [] 0 xs ≡ none
-    fault-end i h e = e ∙ rw (drop-of-length-le xs h)
+    pub fault_end : (i : ℕ) → length xs ≤ i → FaultFrom i → first_fault bad [] 0 xs ≡ none
+    fault_end i h e = e ∙ rw (drop_of_length-le xs h)

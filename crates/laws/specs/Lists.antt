@@ -1,8 +1,6 @@
 -- Words on lists and truth values that definitions of more than one crate use.
-use Prim.Native.Nat.{ℕ, zero, suc, _+_, max}
-use mathlib.Core.Bool.{Bool, true, false, _&&_, _||_}
-use mathlib.Core.List.{List, [], _∷_, _++_}
-use mathlib.Core.Option.{Option, none, some}
+use Rattle.std.specs.Prelude.{ℕ, zero, suc, ◌+◌, max, Bool, true, false, ◌&&◌, ◌||◌, List, [], ◌∷◌, ◌++◌}
+use Rattle.std.proofs.Math.Option.{Option, none, some}
 
 -- the numbers from m on, n of them
 abbrev pub count : ℕ → ℕ → List ℕ
@@ -51,9 +49,9 @@ module _ {ℓ} {A : Type ℓ} where
   found (some x) = true
 
   -- the place of the first element at fault, counted on from `place`; the test also sees the elements before it, the last one first
-  abbrev pub firstFault : (List A → A → Bool) → List A → ℕ → List A → Option ℕ
-  firstFault bad before place [] = none
-  firstFault bad before place (x ∷ xs) = elim (bad before x) [ true ↦ some place | false ↦ firstFault bad (x ∷ before) (place + 1) xs ]
+  abbrev pub first_fault : (List A → A → Bool) → List A → ℕ → List A → Option ℕ
+  first_fault bad before place [] = none
+  first_fault bad before place (x ∷ xs) = elim (bad before x) [ true ↦ some place | false ↦ first_fault bad (x ∷ before) (place + 1) xs ]
 
 -- each element's own list, one after another
 abbrev pub flat {ℓ κ} : {A : Type ℓ} {B : Type κ} → (A → List B) → List A → List B

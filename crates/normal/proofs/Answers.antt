@@ -1,123 +1,123 @@
 -- What a call finds out step by step, in terms of its number: which of 1 to 9 normalising gives, from what the code tested under its ceiling; and that the code then holds a table that is not refused.
-use Prim.Native.Nat.{ℕ, _+_, _*_, _<_, _≤_}
+use Prim.Native.Nat.{ℕ, ◌+◌, ◌*◌, ◌<◌, ◌≤◌}
 use native.Mathlib.Omega.{arith}
-use mathlib.Core.Path.{_≡_, refl, sym, ap, _∙_}
+use mathlib.Core.Path.{◌≡◌, refl, sym, ap, ◌∙◌}
 use mathlib.Core.Bool.{Bool, true, false}
-use mathlib.Core.List.{List, map, _++_}
+use mathlib.Core.List.{List, map, ◌++◌}
 use lib.ListN.{length, length-append, length-map}
 use borrow.Author.Tests.{lt-ltb, le-ltb}
-use Rattle·laws.specs.Lists.{found}
-use Rattle·records.specs.Record.{jobBytes, inJobs}
-use Rattle·records.specs.Table.{badLength, readAll, unreadable, encode}
-use Rattle·records.specs.Outcome.{refuse}
-use Rattle·records.specs.declared.JobRecord.the-variants.{J, L}
-use Rattle·records.proofs.Codec.{jobs as job-tables}
-use Rattle·records.proofs.Tables.{length-encode}
-use Rattle·jobs.specs.declared.Jobs.{Jobs}
-use Rattle·jobs.specs.Judge.{fault3, fault4, fault5}
-use Rattle·jobs.specs.Call.{jobTable, jobsNumber}
-use Rattle·jobs.specs.Arrays.{jobsOf}
-use Rattle·jobs.proofs.WellFormed.{WellFormed, well-formed-number}
-use Rattle·normal·specs.specs.declared.Windows.{Windows}
-use Rattle·normal·specs.specs.Gaps.{Square, gaps, ringIn}
-use Rattle·normal·specs.specs.Windows.{noStarts, windows}
-use Rattle·normal·specs.specs.Call.{startsNumber, normalBytes, normaliseNumber}
-use Rattle·normal·specs.specs.Arrays.{ceiling, capped, Holds}
-use Rattle·normal·specs.specs.Chosen.{presentIn, jobsIn, chosen, linksIn}
-use Rattle·normal·proofs.proofs.Ceiling.{capped-within}
-use Rattle·normal·proofs.proofs.CeilingTells.{ring-capped, starts-capped, gaps-capped}
-use Rattle·normal·proofs.proofs.CanonicalBytes.{accepted-later}
-use Rattle·normal·proofs.proofs.Held.{normalisable}
-use Rattle·normal·proofs.proofs.WriteLoops.{length-jobs-in}
-use Rattle·normal·proofs.proofs.FormHeld.{form-held}
+use Rattle.laws.specs.Lists.{found}
+use Rattle.records.specs.Record.{job_bytes, in_jobs}
+use Rattle.records.specs.Table.{bad_length, read_all, unreadable, encode}
+use Rattle.records.specs.Outcome.{refuse}
+use Rattle.records.specs.declared.JobRecord.TheVariants.{J, L}
+use Rattle.records.proofs.Codec.{jobs as job-tables}
+use Rattle.records.proofs.Tables.{length_encode}
+use Rattle.jobs.specs.declared.Jobs.{Jobs}
+use Rattle.jobs.specs.Judge.{fault3, fault4, fault5}
+use Rattle.jobs.specs.Call.{job_table, jobs_number}
+use Rattle.jobs.specs.Arrays.{jobs_of}
+use Rattle.jobs.proofs.WellFormed.{WellFormed, well_formed_number}
+use Rattle.normal.specs.declared.Windows.{Windows}
+use Rattle.normal.specs.Gaps.{Square, gaps, ring_in}
+use Rattle.normal.specs.Windows.{no_starts, windows}
+use Rattle.normal.specs.Call.{starts_number, normal_bytes, normalise_number}
+use Rattle.normal.specs.Arrays.{ceiling, capped, Holds}
+use Rattle.normal.specs.Chosen.{present_in, jobs_in, chosen, links_in}
+use Rattle.normal.proofs.Ceiling.{capped_within}
+use Rattle.normal.proofs.CeilingTells.{ring_capped, starts_capped, gaps_capped}
+use Rattle.normal.proofs.CanonicalBytes.{accepted_later}
+use Rattle.normal.proofs.Held.{normalisable}
+use Rattle.normal.proofs.WriteLoops.{length_jobs_in}
+use Rattle.normal.proofs.FormHeld.{form_held}
 
 -- a number that is given stays, whatever comes after it
-refuse-stays : (n : ℕ) (t : Bool) {now later given : ℕ} → (now ≡ given → later ≡ given) → refuse n t now ≡ given → refuse n t later ≡ given
-refuse-stays n true go e = e
-refuse-stays n false go e = go e
+refuse_stays : (n : ℕ) (t : Bool) {now later given : ℕ} → (now ≡ given → later ≡ given) → refuse n t now ≡ given → refuse n t later ≡ given
+refuse_stays n true go e = e
+refuse_stays n false go e = go e
 
 -- where one of 1 to 5 is given, it is the call's number
-pub jobs-refused : (bytes : List ℕ) (given later : ℕ) → (given ≡ 0 → ⊥) → jobsNumber bytes 0 ≡ given → jobsNumber bytes later ≡ given
-unfolding jobsNumber
-jobs-refused bytes given later some =
-    refuse-stays 1 (badLength bytes)
-    (refuse-stays 2 (found (unreadable (readAll inJobs bytes)))
-    (refuse-stays 3 (found (fault3 (jobTable bytes)))
-    (refuse-stays 4 (found (fault4 (jobTable bytes)))
-    (refuse-stays 5 (found (fault5 (jobTable bytes))) (λ e. absurd (some (sym e)))))))
+pub jobs_refused : (bytes : List ℕ) (given later : ℕ) → (given ≡ 0 → ⊥) → jobs_number bytes 0 ≡ given → jobs_number bytes later ≡ given
+unfolding jobs_number
+jobs_refused bytes given later some =
+    refuse_stays 1 (bad_length bytes)
+    (refuse_stays 2 (found (unreadable (read_all in_jobs bytes)))
+    (refuse_stays 3 (found (fault3 (job_table bytes)))
+    (refuse_stays 4 (found (fault4 (job_table bytes)))
+    (refuse_stays 5 (found (fault5 (job_table bytes))) (λ e. absurd (some (sym e)))))))
 
 -- so normalising gives it
-pub jobs-normalised : (bytes : List ℕ) (room given : ℕ) → (given ≡ 0 → ⊥) → jobsNumber bytes 0 ≡ given → normaliseNumber bytes room ≡ given
-unfolding normaliseNumber
-jobs-normalised bytes room given some e = jobs-refused bytes given _ some e
+pub jobs_normalised : (bytes : List ℕ) (room given : ℕ) → (given ≡ 0 → ⊥) → jobs_number bytes 0 ≡ given → normalise_number bytes room ≡ given
+unfolding normalise_number
+jobs_normalised bytes room given some e = jobs_refused bytes given _ some e
 
-module _ {bytes : List ℕ} (formed : WellFormed bytes) {square : Square} (made : square ≡ capped ceiling (gaps (jobTable bytes))) where
+module _ {bytes : List ℕ} (formed : WellFormed bytes) {square : Square} (made : square ≡ capped ceiling (gaps (job_table bytes))) where
   -- what the square under the ceiling tells
-  ring-told : {t : Bool} → t ≡ ringIn square → ringIn (gaps (jobTable bytes)) ≡ t
-  ring-told e = sym (e ∙ ap ringIn made ∙ ring-capped ceiling (omega arith) (gaps (jobTable bytes)))
+  ring_told : {t : Bool} → t ≡ ring_in square → ring_in (gaps (job_table bytes)) ≡ t
+  ring_told e = sym (e ∙ ap ring_in made ∙ ring_capped ceiling (omega arith) (gaps (job_table bytes)))
 
-  starts-told : {t : Bool} → t ≡ noStarts (jobTable bytes) square → noStarts (jobTable bytes) (gaps (jobTable bytes)) ≡ t
-  starts-told e = sym (e ∙ ap (noStarts (jobTable bytes)) made ∙ starts-capped ceiling (omega arith) (jobTable bytes) (formed .sound) (gaps (jobTable bytes)))
+  starts_told : {t : Bool} → t ≡ no_starts (job_table bytes) square → no_starts (job_table bytes) (gaps (job_table bytes)) ≡ t
+  starts_told e = sym (e ∙ ap (no_starts (job_table bytes)) made ∙ starts_capped ceiling (omega arith) (job_table bytes) formed.sound (gaps (job_table bytes)))
 
   -- 7
-  pub ring-number : (later : ℕ) → true ≡ ringIn square → jobsNumber bytes (startsNumber (jobTable bytes) later) ≡ 7
-  unfolding startsNumber
-  ring-number later e = well-formed-number formed _ ∙ rw (ring-told e)
+  pub ring_number : (later : ℕ) → true ≡ ring_in square → jobs_number bytes (starts_number (job_table bytes) later) ≡ 7
+  unfolding starts_number
+  ring_number later e = well_formed_number formed _ ∙ rw (ring_told e)
 
-  pub ring-normalised : (room : ℕ) → true ≡ ringIn square → normaliseNumber bytes room ≡ 7
-  unfolding normaliseNumber
-  ring-normalised room e = ring-number _ e
+  pub ring_normalised : (room : ℕ) → true ≡ ring_in square → normalise_number bytes room ≡ 7
+  unfolding normalise_number
+  ring_normalised room e = ring_number _ e
 
-  module _ (no-ring : false ≡ ringIn square) where
+  module _ (no-ring : false ≡ ring_in square) where
     -- 8
-    pub starts-number : (later : ℕ) → true ≡ noStarts (jobTable bytes) square → jobsNumber bytes (startsNumber (jobTable bytes) later) ≡ 8
-    unfolding startsNumber
-    starts-number later e = well-formed-number formed _ ∙ rw (ring-told no-ring, starts-told e)
+    pub starts_number_lem : (later : ℕ) → true ≡ no_starts (job_table bytes) square → jobs_number bytes (starts_number (job_table bytes) later) ≡ 8
+    unfolding starts_number
+    starts_number_lem later e = well_formed_number formed _ ∙ rw (ring_told no-ring, starts_told e)
 
-    pub starts-normalised : (room : ℕ) → true ≡ noStarts (jobTable bytes) square → normaliseNumber bytes room ≡ 8
-    unfolding normaliseNumber
-    starts-normalised room e = starts-number _ e
+    pub starts_normalised : (room : ℕ) → true ≡ no_starts (job_table bytes) square → normalise_number bytes room ≡ 8
+    unfolding normalise_number
+    starts_normalised room e = starts_number_lem _ e
 
     -- neither, and the code holds the table's jobs and its square of gaps
-    pub table-held : (jobs : Jobs) → jobs ≡ jobsOf (jobTable bytes) → false ≡ noStarts (jobTable bytes) square → Holds (jobTable bytes) jobs square
-    table-held jobs same e =
-        let starts = starts-told e in
-        let ringless = ring-told no-ring in
+    pub table_held : (jobs : Jobs) → jobs ≡ jobs_of (job_table bytes) → false ≡ no_starts (job_table bytes) square → Holds (job_table bytes) jobs square
+    table_held jobs same e =
+        let starts = starts_told e in
+        let ringless = ring_told no-ring in
         record {
-          sound = formed .sound;
+          sound = formed.sound;
           ringless = ringless;
           starts = starts;
-          jobs-held = same;
-          gaps-held = made ∙ gaps-capped ceiling (omega arith) (record { sound = formed .sound; ringless = ringless; starts = starts });
-          within = rw made (capped-within ceiling (gaps (jobTable bytes)));
+          jobs_held = same;
+          gaps_held = made ∙ gaps_capped ceiling (omega arith) (record { sound = formed.sound; ringless = ringless; starts = starts });
+          within = rw made (capped_within ceiling (gaps (job_table bytes)));
         }
 
-module _ {bytes : List ℕ} (formed : WellFormed bytes) {jobs : Jobs} {square : Square} (held : Holds (jobTable bytes) jobs square) where
+module _ {bytes : List ℕ} (formed : WellFormed bytes) {jobs : Jobs} {square : Square} (held : Holds (job_table bytes) jobs square) where
   -- the number is then what comes after
-  pub held-number : (later : ℕ) → jobsNumber bytes (startsNumber (jobTable bytes) later) ≡ later
-  held-number = accepted-later (record { well-formed = formed; normalisable = normalisable held })
+  pub held_number : (later : ℕ) → jobs_number bytes (starts_number (job_table bytes) later) ≡ later
+  held_number = accepted_later (record { well_formed = formed; normalisable = normalisable held })
 
-  module _ (w : Windows) (same : w ≡ windows (jobTable bytes) square) where
+  module _ (w : Windows) (same : w ≡ windows (job_table bytes) square) where
     -- the bytes of the normal form
-    pub held-bytes : {links : Square} → links ≡ chosen jobs w square → encode jobBytes (map J (jobsIn jobs w) ++ map L (linksIn links)) ≡ normalBytes bytes
-    unfolding normalBytes
-    held-bytes e = ap (λ links. encode jobBytes (map J (jobsIn jobs w) ++ map L (linksIn links))) e ∙ ap (encode jobBytes) (form-held held w same)
+    pub held_bytes : {links : Square} → links ≡ chosen jobs w square → encode job_bytes (map J (jobs_in jobs w) ++ map L (links_in links)) ≡ normal_bytes bytes
+    unfolding normal_bytes
+    held_bytes e = ap (λ links. encode job_bytes (map J (jobs_in jobs w) ++ map L (links_in links))) e ∙ ap (encode job_bytes) (form_held held w same)
 
     -- and their number
-    pub held-length : length (normalBytes bytes) ≡ 12 * (length (presentIn jobs) + length (linksIn (chosen jobs w square)))
-    held-length =
-        let js = map J (jobsIn jobs w) in
-        let ls = map L (linksIn (chosen jobs w square)) in
-        sym (ap length (held-bytes refl))
-        ∙ length-encode job-tables (js ++ ls)
-        ∙ omega (arith, length-append js ls, length-jobs-in jobs w, length-map (linksIn (chosen jobs w square)) L)
+    pub held_length : length (normal_bytes bytes) ≡ 12 * (length (present_in jobs) + length (links_in (chosen jobs w square)))
+    held_length =
+        let js = map J (jobs_in jobs w) in
+        let ls = map L (links_in (chosen jobs w square)) in
+        sym (ap length (held_bytes refl))
+        ∙ length_encode job-tables (js ++ ls)
+        ∙ omega (arith, length-append js ls, length_jobs_in jobs w, length-map (links_in (chosen jobs w square)) L)
 
     -- 9, where there is no room for them
-    pub room-number : (room : ℕ) → room < 12 * (length (presentIn jobs) + length (linksIn (chosen jobs w square))) → normaliseNumber bytes room ≡ 9
-    unfolding normaliseNumber
-    room-number room h = held-number _ ∙ ap (λ t. refuse 9 t 0) (lt-ltb room (length (normalBytes bytes)) (omega (arith, held-length)))
+    pub room_number : (room : ℕ) → room < 12 * (length (present_in jobs) + length (links_in (chosen jobs w square))) → normalise_number bytes room ≡ 9
+    unfolding normalise_number
+    room_number room h = held_number _ ∙ ap (λ t. refuse 9 t 0) (lt-ltb room (length (normal_bytes bytes)) (omega (arith, held_length)))
 
     -- and 0 where there is
-    pub done-number : (room : ℕ) → 12 * (length (presentIn jobs) + length (linksIn (chosen jobs w square))) ≤ room → normaliseNumber bytes room ≡ 0
-    unfolding normaliseNumber
-    done-number room h = held-number _ ∙ ap (λ t. refuse 9 t 0) (le-ltb room (length (normalBytes bytes)) (omega (arith, held-length)))
+    pub done_number : (room : ℕ) → 12 * (length (present_in jobs) + length (links_in (chosen jobs w square))) ≤ room → normalise_number bytes room ≡ 0
+    unfolding normalise_number
+    done_number room h = held_number _ ∙ ap (λ t. refuse 9 t 0) (le-ltb room (length (normal_bytes bytes)) (omega (arith, held_length)))

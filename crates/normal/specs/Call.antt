@@ -1,30 +1,27 @@
 -- What normalising a table comes to: "Normalising gives 0 to 5 and 7 to 9".
-use Prim.Native.Nat.{ℕ}
-use mathlib.Core.List.{List}
-use lib.ListN.{length}
-use lib.Dec.{ltb}
-use Rattle·records.specs.Record.{jobBytes}
-use Rattle·records.specs.Table.{encode}
-use Rattle·records.specs.Outcome.{Outcome, refuse, done, unlessRefused}
-use Rattle·records.specs.declared.JobRecord.{JobRecord}
-use Rattle·jobs.specs.Call.{jobTable, jobsNumber}
-use Rattle·normal·specs.specs.Gaps.{gaps, ringIn}
-use Rattle·normal·specs.specs.Windows.{noStarts}
-use Rattle·normal·specs.specs.Normal.{normalForm}
+use Rattle.std.specs.Prelude.{ℕ, List, length, ltb}
+use Rattle.records.specs.Record.{job_bytes}
+use Rattle.records.specs.Table.{encode}
+use Rattle.records.specs.Outcome.{Outcome, refuse, done, unless_refused}
+use Rattle.records.specs.declared.JobRecord.{JobRecord}
+use Rattle.jobs.specs.Call.{job_table, jobs_number}
+use Rattle.normal.specs.Gaps.{gaps, ring_in}
+use Rattle.normal.specs.Windows.{no_starts}
+use Rattle.normal.specs.Normal.{normal_form}
 
 -- the lower of 7 and 8 that holds of a table's records, else what comes after
-unfoldable pub startsNumber : List JobRecord → ℕ → ℕ
-startsNumber table later = refuse 7 (ringIn (gaps table)) (refuse 8 (noStarts table (gaps table)) later)
+unfoldable pub starts_number : List JobRecord → ℕ → ℕ
+starts_number table later = refuse 7 (ring_in (gaps table)) (refuse 8 (no_starts table (gaps table)) later)
 
 -- the bytes of the normal form
-unfoldable pub normalBytes : List ℕ → List ℕ
-normalBytes bytes = encode jobBytes (normalForm (jobTable bytes))
+unfoldable pub normal_bytes : List ℕ → List ℕ
+normal_bytes bytes = encode job_bytes (normal_form (job_table bytes))
 
 -- 9: "output too short": "The room needed is exactly the records' length"
-unfoldable pub normaliseNumber : List ℕ → ℕ → ℕ
-normaliseNumber bytes room =
-    jobsNumber bytes (startsNumber (jobTable bytes) (refuse 9 (ltb room (length (normalBytes bytes))) 0))
+unfoldable pub normalise_number : List ℕ → ℕ → ℕ
+normalise_number bytes room =
+    jobs_number bytes (starts_number (job_table bytes) (refuse 9 (ltb room (length (normal_bytes bytes))) 0))
 
 -- normalising the table into an output of so much room
 unfoldable pub normalise : List ℕ → ℕ → Outcome
-normalise bytes room = unlessRefused (normaliseNumber bytes room) (done 0 (normalBytes bytes))
+normalise bytes room = unless_refused (normalise_number bytes room) (done 0 (normal_bytes bytes))

@@ -1,13 +1,9 @@
 -- "The normaliser works out the longest gap between every two jobs": a square of gaps by job number, 48 by 48.
 -- A link weighs its from job's cost and its latency, at least 1, so that a cell of 0 says that no chain leads from i to j.
-use Prim.Native.Nat.{ℕ, zero, suc, _+_, max}
-use mathlib.Core.Bool.{Bool, true, false, not}
-use mathlib.Core.List.{List, [], _∷_, map}
-use lib.ListN.{getD}
-use lib.Dec.{eqb}
-use Rattle·laws.specs.Lists.{count, any}
-use Rattle·records.specs.declared.JobRecord.{JobRecord}
-use Rattle·jobs.specs.Jobs.{numbers, cost, strongest}
+use Rattle.std.specs.Prelude.{ℕ, zero, suc, ◌+◌, max, Bool, not, List, [], ◌∷◌, map, get_or, eqb}
+use Rattle.laws.specs.Lists.{count, any}
+use Rattle.records.specs.declared.JobRecord.{JobRecord}
+use Rattle.jobs.specs.Jobs.{numbers, cost, strongest}
 
 -- a square of numbers: its rows
 abbrev pub Square : Type 0
@@ -15,7 +11,7 @@ Square = List (List ℕ)
 
 -- the cell in row i and column j
 abbrev pub cell : Square → ℕ → ℕ → ℕ
-cell square i j = getD (getD square i []) j 0
+cell square i j = get_or (get_or square i []) j 0
 
 -- what the strongest link weighs
 abbrev pub weight : ℕ → ℕ → ℕ
@@ -23,8 +19,8 @@ weight c zero = 0
 weight c (suc latency) = c + latency
 
 -- the square of the links: cost and latency of the strongest from i to j
-unfoldable pub linkSquare : List JobRecord → Square
-linkSquare table = map (λ i. map (λ j. weight (cost table i) (strongest table i j)) (count 0 48)) (count 0 48)
+unfoldable pub link_square : List JobRecord → Square
+link_square table = map (λ i. map (λ j. weight (cost table i) (strongest table i j)) (count 0 48)) (count 0 48)
 
 -- the sum of two chains that are joined, and 0 where one of them is none
 abbrev pub joined : ℕ → ℕ → ℕ
@@ -39,13 +35,13 @@ widened a (c ∷ cs) [] = c ∷ cs
 widened a (c ∷ cs) (b ∷ bs) = max c (joined a b) ∷ widened a cs bs
 
 -- the row, where no chain leads to the job, else with the chains through it
-unfoldable pub throughRow : ℕ → List ℕ → List ℕ → List ℕ
-throughRow zero row through = row
-throughRow (suc a) row through = widened (suc a) row through
+unfoldable pub through_row : ℕ → List ℕ → List ℕ → List ℕ
+through_row zero row through = row
+through_row (suc a) row through = widened (suc a) row through
 
 -- the square with the chains through job k
 unfoldable pub round : ℕ → Square → Square
-round k square = map (λ row. throughRow (getD row k 0) row (getD square k [])) square
+round k square = map (λ row. through_row (get_or row k 0) row (get_or square k [])) square
 
 -- the square with the chains through each of some jobs
 unfoldable pub rounds : List ℕ → Square → Square
@@ -54,8 +50,8 @@ rounds (k ∷ ks) square = rounds ks (round k square)
 
 -- the square of gaps
 unfoldable pub gaps : List JobRecord → Square
-gaps table = rounds (numbers table) (linkSquare table)
+gaps table = rounds (numbers table) (link_square table)
 
 -- 7: "the links form a ring"
-unfoldable pub ringIn : Square → Bool
-ringIn square = any (λ i. not (eqb (cell square i i) 0)) (count 0 48)
+unfoldable pub ring_in : Square → Bool
+ring_in square = any (λ i. not (eqb (cell square i i) 0)) (count 0 48)

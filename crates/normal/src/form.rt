@@ -1,22 +1,21 @@
 // The normal form as the search takes it: its jobs by number, and the links that are written, by the job they lead to.
+ghost use Rattle.std.specs.Prelude.{◌≡◌, List, map, ◌<◌};
+ghost use Rattle.laws.specs.Lists.{count};
+ghost use Rattle.records.specs.declared.JobRecord.{JobRecord};
+ghost use Rattle.jobs.specs.Arrays.{jobs_of};
+ghost use Rattle.normal.specs.Gaps.{Square, cell};
+ghost use Rattle.normal.specs.Windows.{windows};
+ghost use Rattle.normal.specs.Normal.{normal_form};
+ghost use Rattle.normal.specs.Arrays.{Holds};
+ghost use Rattle.normal.specs.Chosen.{EndsFit};
+
 use crate::Windows;
 use jobs::Jobs;
-ghost use mathlib.Core.Path.{_≡_};
-ghost use mathlib.Core.List.{List, map};
-ghost use Prim.Native.Nat.{_<_};
-ghost use Rattle·laws.specs.Lists.{count};
-ghost use Rattle·records.specs.declared.JobRecord.{JobRecord};
-ghost use Rattle·jobs.specs.Arrays.{jobsOf};
-ghost use Rattle·normal·specs.specs.Gaps.{Square, cell};
-ghost use Rattle·normal·specs.specs.Windows.{windows};
-ghost use Rattle·normal·specs.specs.Normal.{normalForm};
-ghost use Rattle·normal·specs.specs.Arrays.{Holds};
-ghost use Rattle·normal·specs.specs.Chosen.{EndsFit};
 
 // The normal form's jobs: cost as it was, release = earliest start, deadline = latest start + cost.
 pub fn tightened(jobs: Jobs, tight: Windows) -> Jobs
-    requires { ⌜ EndsFit jobs tight ⌝ }
-    ensures { λ r. ⌜ ((table : List JobRecord) (square : Square) → Holds table jobs square → tight ≡ windows table square → r ≡ jobsOf (normalForm table)) ⌝ }
+    requires { EndsFit jobs tight }
+    ensures { (table : List JobRecord) (square : Square) → Holds table jobs square → tight ≡ windows table square → result ≡ jobs_of (normal_form table) }
 {
     let mut deadline = [0u16; 48];
     let mut n: usize = 0;
@@ -34,8 +33,8 @@ pub fn tightened(jobs: Jobs, tight: Windows) -> Jobs
 
 // The links to job k, by from.
 fn turned_row(links: &[[u16; 48]; 48], k: usize) -> [u16; 48]
-    requires { ⌜ k < 48 ⌝ }
-    ensures { λ r. ⌜ r ≡ map (λ i. cell (now (links .entry)) i k) (count 0 48) ⌝ }
+    requires { k < 48 }
+    ensures { result ≡ map (λ i. cell links.now i k) (count 0 48) }
 {
     let mut row = [0u16; 48];
     let mut i: usize = 0;
@@ -48,7 +47,7 @@ fn turned_row(links: &[[u16; 48]; 48], k: usize) -> [u16; 48]
 
 // The links by to and then from, given by from and then to.
 pub fn turned(links: [[u16; 48]; 48]) -> [[u16; 48]; 48]
-    ensures { λ r. ⌜ r ≡ map (λ k. map (λ i. cell links i k) (count 0 48)) (count 0 48) ⌝ }
+    ensures { result ≡ map (λ k. map (λ i. cell links i k) (count 0 48)) (count 0 48) }
 {
     let mut into = [[0u16; 48]; 48];
     let mut k: usize = 0;

@@ -1,20 +1,18 @@
 // The longest gap between every two jobs: a square of gaps by value, 48 by 48. A cell of 0 says that no chain leads from i to j.
+ghost use Rattle.std.specs.Prelude.{◌≡◌, List, map, ◌≤◌, ◌<◌, min, max, length};
+ghost use Rattle.records.specs.declared.JobRecord.{JobRecord};
+ghost use Rattle.jobs.specs.Arrays.{jobs_of, links_of};
+ghost use Rattle.normal.specs.Gaps as gaps;
+ghost use Rattle.normal.specs.Arrays.{ceiling, capped, weighed, RowWithin, Within};
+
 use jobs::Jobs;
-ghost use mathlib.Core.Path.{_≡_};
-ghost use mathlib.Core.List.{List, map};
-ghost use Prim.Native.Nat.{_≤_, _<_, min, max};
-ghost use lib.ListN.{length};
-ghost use Rattle·records.specs.declared.JobRecord.{JobRecord};
-ghost use Rattle·jobs.specs.Arrays.{jobsOf, linksOf};
-ghost use Rattle·normal·specs.specs.Gaps as gaps;
-ghost use Rattle·normal·specs.specs.Arrays.{ceiling, capped, weighed, RowWithin, Within};
 
 // No cell of the square is larger: a gap as long as this misses every deadline.
 const CEILING: u32 = 65535;
 
 // What the strongest link weighs: the from job's cost and the latency, and 0 where there is no link.
 fn link_cell(cost: u16, strongest: u16) -> u32
-    ensures { λ r. ⌜ r ≡ min ceiling (gaps.weight cost strongest) ⌝ }
+    ensures { result ≡ min ceiling (gaps.weight cost strongest) }
 {
     if strongest == 0 {
         return 0;
@@ -28,7 +26,7 @@ fn link_cell(cost: u16, strongest: u16) -> u32
 
 // The links from one job.
 fn link_row(cost: u16, links: [u16; 48]) -> [u32; 48]
-    ensures { λ r. ⌜ r ≡ map (min ceiling) (map (gaps.weight cost) links) ⌝ }
+    ensures { result ≡ map (min ceiling) (map (gaps.weight cost) links) }
 {
     let mut row = [0u32; 48];
     let mut j: usize = 0;
@@ -41,7 +39,7 @@ fn link_row(cost: u16, links: [u16; 48]) -> [u32; 48]
 
 // The square of the links.
 fn link_square(cost: [u16; 48], links: [[u16; 48]; 48]) -> [[u32; 48]; 48]
-    ensures { λ r. ⌜ r ≡ capped ceiling (weighed cost links) ⌝ }
+    ensures { result ≡ capped ceiling (weighed cost links) }
 {
     let mut square = [[0u32; 48]; 48];
     let mut i: usize = 0;
@@ -54,8 +52,8 @@ fn link_square(cost: [u16; 48], links: [[u16; 48]; 48]) -> [[u32; 48]; 48]
 
 // A cell with the chain through a job: a leads to that job and b on from it, and c is the longest so far.
 fn widened_cell(c: u32, a: u32, b: u32) -> u32
-    requires { ⌜ (c ≤ ceiling) × (0 < a) × (a ≤ ceiling) × (b ≤ ceiling) ⌝ }
-    ensures { λ r. ⌜ r ≡ min ceiling (max c (gaps.joined a b)) ⌝ }
+    requires { (c ≤ ceiling) × (0 < a) × (a ≤ ceiling) × (b ≤ ceiling) }
+    ensures { result ≡ min ceiling (max c (gaps.joined a b)) }
 {
     if b == 0 {
         return c;
@@ -72,8 +70,8 @@ fn widened_cell(c: u32, a: u32, b: u32) -> u32
 
 // A row with the chains through a job: a is the row's own chain to that job, and `through` that job's row.
 fn widened_row(a: u32, row: [u32; 48], through: [u32; 48]) -> [u32; 48]
-    requires { ⌜ (0 < a) × (a ≤ ceiling) × RowWithin ceiling row × RowWithin ceiling through ⌝ }
-    ensures { λ r. ⌜ r ≡ map (min ceiling) (gaps.widened a row through) ⌝ }
+    requires { (0 < a) × (a ≤ ceiling) × RowWithin ceiling row × RowWithin ceiling through }
+    ensures { result ≡ map (min ceiling) (gaps.widened a row through) }
 {
     let mut next = [0u32; 48];
     let mut j: usize = 0;
@@ -86,8 +84,8 @@ fn widened_row(a: u32, row: [u32; 48], through: [u32; 48]) -> [u32; 48]
 
 // The square with the chains through job k: a row from which no chain leads to k stays as it is.
 fn round(k: usize, square: &mut [[u32; 48]; 48])
-    requires { ⌜ (k < 48) × (length (now square) ≡ 48) × Within ceiling (now square) ⌝ }
-    ensures { λ _. ⌜ now (square .exit) ≡ capped ceiling (gaps.round k (now (square .entry))) ⌝ }
+    requires { (k < 48) × (length square.old ≡ 48) × Within ceiling square.old }
+    ensures { square.new ≡ capped ceiling (gaps.round k square.old) }
 {
     let through = square[k];
     let mut i: usize = 0;
@@ -102,7 +100,7 @@ fn round(k: usize, square: &mut [[u32; 48]; 48])
 
 // The square of gaps: the rounds through the jobs, by rising number.
 pub fn gaps(jobs: Jobs, links: [[u16; 48]; 48]) -> [[u32; 48]; 48]
-    ensures { λ r. ⌜ ((table : List JobRecord) → jobs ≡ jobsOf table → links ≡ linksOf table → r ≡ capped ceiling (gaps.gaps table)) ⌝ }
+    ensures { (table : List JobRecord) → jobs ≡ jobs_of table → links ≡ links_of table → result ≡ capped ceiling (gaps.gaps table) }
 {
     let cost = jobs.cost;
     let mut square = link_square(cost, links);
@@ -118,7 +116,7 @@ pub fn gaps(jobs: Jobs, links: [[u16; 48]; 48]) -> [[u32; 48]; 48]
 
 // 7: the links form a ring.
 pub fn ring_in(square: [[u32; 48]; 48]) -> bool
-    ensures { λ r. ⌜ r ≡ gaps.ringIn square ⌝ }
+    ensures { result ≡ gaps.ring_in square }
 {
     let mut n: usize = 0;
     while n < 48 {

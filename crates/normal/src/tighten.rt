@@ -1,28 +1,25 @@
 // The windows of the jobs: refusal 8, and each job's earliest and latest permitted start, from a square of gaps without a ring.
+ghost use Rattle.std.specs.Prelude.{◌≡◌, List, ◌+◌, ◌-◌, ◌≤◌, ◌<◌, min, max, ltb, get_or};
+ghost use Rattle.records.specs.declared.JobRecord.{JobRecord};
+ghost use Rattle.jobs.specs.Jobs.{cost, deadline};
+ghost use Rattle.jobs.specs.Arrays.{jobs_of};
+ghost use Rattle.normal.specs.Windows as windows;
+ghost use Rattle.normal.specs.Arrays.{ceiling, Within, Holds};
+
 use crate::Windows;
 use jobs::Jobs;
-ghost use mathlib.Core.Path.{_≡_};
-ghost use mathlib.Core.List.{List};
-ghost use Prim.Native.Nat.{_+_, _-_, _≤_, _<_, min, max};
-ghost use lib.Dec.{ltb};
-ghost use lib.ListN.{getD};
-ghost use Rattle·records.specs.declared.JobRecord.{JobRecord};
-ghost use Rattle·jobs.specs.Jobs.{cost, deadline};
-ghost use Rattle·jobs.specs.Arrays.{jobsOf};
-ghost use Rattle·normal·specs.specs.Windows as windows;
-ghost use Rattle·normal·specs.specs.Arrays.{ceiling, Within, Holds};
 
 // A time as a wider number, in which the sum of two fits.
 fn wide(time: u16) -> u32
-    ensures { λ r. ⌜ (r ≡ time) × (r < 65536) ⌝ }
+    ensures { (result ≡ time) × (result < 65536) }
 {
     time as u32
 }
 
 // The later of a time and of another with the gap after it, where there is one.
 fn later(earliest: u32, time: u16, gap: u32) -> u32
-    requires { ⌜ (earliest < 131072) × (gap ≤ ceiling) ⌝ }
-    ensures { λ r. ⌜ (r < 131072) × (r ≡ max earliest (windows.after time gap)) ⌝ }
+    requires { (earliest < 131072) × (gap ≤ ceiling) }
+    ensures { (result < 131072) × (result ≡ max earliest (windows.after time gap)) }
 {
     if gap == 0 {
         return earliest;
@@ -36,9 +33,9 @@ fn later(earliest: u32, time: u16, gap: u32) -> u32
 
 // The earliest permitted start of job j: its release, and each release of a job that leads to it with the gap between them.
 fn earliest_of(jobs: Jobs, square: &[[u32; 48]; 48], j: usize) -> u32
-    requires { ⌜ (j < 48) × Within ceiling (now square) ⌝ }
-    ensures { λ r. ⌜ r < 131072 ⌝ }
-    ensures { λ r. ⌜ ((table : List JobRecord) → jobs ≡ jobsOf table → r ≡ windows.earliestOf table (now (square .entry)) j) ⌝ }
+    requires { (j < 48) × Within ceiling square.now }
+    ensures upper_bound { result < 131072 }
+    ensures value { (table : List JobRecord) → jobs ≡ jobs_of table → result ≡ windows.earliest_of table square.now j }
 {
     let mut earliest = wide(jobs.release[j]);
     let mut i: usize = 0;
@@ -53,8 +50,8 @@ fn earliest_of(jobs: Jobs, square: &[[u32; 48]; 48], j: usize) -> u32
 
 // Job j cannot end by its deadline, even from its earliest start.
 fn late(jobs: Jobs, square: &[[u32; 48]; 48], j: usize) -> bool
-    requires { ⌜ (j < 48) × Within ceiling (now square) ⌝ }
-    ensures { λ r. ⌜ ((table : List JobRecord) → jobs ≡ jobsOf table → r ≡ ltb (deadline table j) (windows.earliestOf table (now (square .entry)) j + cost table j)) ⌝ }
+    requires { (j < 48) × Within ceiling square.now }
+    ensures { (table : List JobRecord) → jobs ≡ jobs_of table → result ≡ ltb (deadline table j) (windows.earliest_of table square.now j + cost table j) }
 {
     let end = earliest_of(jobs, square, j) + wide(jobs.cost[j]);
     wide(jobs.deadline[j]) < end
@@ -62,8 +59,8 @@ fn late(jobs: Jobs, square: &[[u32; 48]; 48], j: usize) -> bool
 
 // 8: no start times meet windows and links, even with overlap allowed.
 pub fn no_starts(jobs: Jobs, square: [[u32; 48]; 48]) -> bool
-    requires { ⌜ Within ceiling square ⌝ }
-    ensures { λ r. ⌜ ((table : List JobRecord) → jobs ≡ jobsOf table → r ≡ windows.noStarts table square) ⌝ }
+    requires { Within ceiling square }
+    ensures { (table : List JobRecord) → jobs ≡ jobs_of table → result ≡ windows.no_starts table square }
 {
     let mut j: usize = 0;
     while j < 48 {
@@ -77,16 +74,16 @@ pub fn no_starts(jobs: Jobs, square: [[u32; 48]; 48]) -> bool
 
 // The last start by which a job ends by its deadline.
 fn last_start(deadline: u16, cost: u16) -> u32
-    requires { ⌜ cost ≤ deadline ⌝ }
-    ensures { λ r. ⌜ (r < 65536) × (r ≡ deadline - cost) ⌝ }
+    requires { cost ≤ deadline }
+    ensures { (result < 65536) × (result ≡ deadline - cost) }
 {
     deadline as u32 - cost as u32
 }
 
 // The earlier of a time and of another with the gap before it, where there is one.
 fn earlier(latest: u32, time: u32, gap: u32) -> u32
-    requires { ⌜ (latest < 65536) × (gap ≤ time) ⌝ }
-    ensures { λ r. ⌜ (r < 65536) × (r ≡ min latest (windows.before latest time gap)) ⌝ }
+    requires { (latest < 65536) × (gap ≤ time) }
+    ensures { (result < 65536) × (result ≡ min latest (windows.before latest time gap)) }
 {
     if gap == 0 {
         return latest;
@@ -100,9 +97,9 @@ fn earlier(latest: u32, time: u32, gap: u32) -> u32
 
 // The latest permitted start of job j: its last start, and that of each job it leads to, less the gap between them.
 fn latest_of(jobs: Jobs, square: &[[u32; 48]; 48], j: usize) -> u32
-    requires { ⌜ (j < 48) × ((table : List JobRecord) × Holds table jobs (now square)) ⌝ }
-    ensures { λ r. ⌜ r < 65536 ⌝ }
-    ensures { λ r. ⌜ ((table : List JobRecord) → Holds table jobs (now (square .entry)) → r ≡ windows.latestOf table (now (square .entry)) j) ⌝ }
+    requires { (j < 48) × ((table : List JobRecord) × Holds table jobs square.now) }
+    ensures upper_bound { result < 65536 }
+    ensures value { (table : List JobRecord) → Holds table jobs square.now → result ≡ windows.latest_of table square.now j }
 {
     let mut latest = last_start(jobs.deadline[j], jobs.cost[j]);
     let mut k: usize = 0;
@@ -118,8 +115,8 @@ fn latest_of(jobs: Jobs, square: &[[u32; 48]; 48], j: usize) -> u32
 
 // The windows of all jobs.
 pub fn windows(jobs: Jobs, square: [[u32; 48]; 48]) -> Windows
-    requires { ⌜ ((table : List JobRecord) × Holds table jobs square) ⌝ }
-    ensures { λ r. ⌜ ((table : List JobRecord) → Holds table jobs square → r ≡ windows.windows table square) ⌝ }
+    requires { (table : List JobRecord) × Holds table jobs square }
+    ensures { (table : List JobRecord) → Holds table jobs square → result ≡ windows.windows table square }
 {
     let mut earliest = [0u16; 48];
     let mut latest = [0u16; 48];

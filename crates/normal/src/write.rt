@@ -1,24 +1,20 @@
 // The records of the normal form, counted and written: the jobs by number, and the links straight after the last job.
+ghost use Rattle.std.specs.Prelude.{◌≡◌, map, ◌++◌, ◌+◌, ◌*◌, ◌≤◌, ◌<◌, length};
+ghost use Rattle.std.proofs.Math.Seq.{paste};
+ghost use Rattle.records.specs.Record.{job_bytes};
+ghost use Rattle.records.specs.Table.{encode};
+ghost use Rattle.records.specs.Outcome.{overwrite};
+ghost use Rattle.records.specs.declared.JobRecord.TheVariants.{J, L};
+ghost use Rattle.normal.specs.Chosen.{present_in, jobs_in, EndsFit, row_links, links_in};
+
 use crate::Windows;
 use jobs::Jobs;
-use records::Job;
-use records::Link;
-use records::write::write_job;
-use records::write::write_link;
-ghost use mathlib.Core.Path.{_≡_};
-ghost use mathlib.Core.List.{map, _++_};
-ghost use Prim.Native.Nat.{_+_, _*_, _≤_, _<_};
-ghost use lib.ListN.{length};
-ghost use lib.Seq.{paste};
-ghost use Rattle·records.specs.Record.{jobBytes};
-ghost use Rattle·records.specs.Table.{encode};
-ghost use Rattle·records.specs.Outcome.{overwrite};
-ghost use Rattle·records.specs.declared.JobRecord.the-variants.{J, L};
-ghost use Rattle·normal·specs.specs.Chosen.{presentIn, jobsIn, EndsFit, rowLinks, linksIn};
+use records::write::{write_job, write_link};
+use records::{Job, Link};
 
 // How many jobs there are.
 pub fn count_jobs(jobs: Jobs) -> usize
-    ensures { λ r. ⌜ (r ≤ 48) × (r ≡ length (presentIn jobs)) ⌝ }
+    ensures { (result ≤ 48) × (result ≡ length (present_in jobs)) }
 {
     let mut count: usize = 0;
     let mut n: usize = 0;
@@ -33,8 +29,8 @@ pub fn count_jobs(jobs: Jobs) -> usize
 
 // How many links from job i are written.
 fn count_row(links: &[[u16; 48]; 48], i: usize) -> usize
-    requires { ⌜ i < 48 ⌝ }
-    ensures { λ r. ⌜ (r ≤ 48) × (r ≡ length (rowLinks (now (links .entry)) i)) ⌝ }
+    requires { i < 48 }
+    ensures { (result ≤ 48) × (result ≡ length (row_links links.now i)) }
 {
     let mut count: usize = 0;
     let mut j: usize = 0;
@@ -49,7 +45,7 @@ fn count_row(links: &[[u16; 48]; 48], i: usize) -> usize
 
 // How many links are written.
 pub fn count_links(links: [[u16; 48]; 48]) -> usize
-    ensures { λ r. ⌜ (r ≤ 2304) × (r ≡ length (linksIn links)) ⌝ }
+    ensures { (result ≤ 2304) × (result ≡ length (links_in links)) }
 {
     let mut count: usize = 0;
     let mut i: usize = 0;
@@ -62,8 +58,8 @@ pub fn count_links(links: [[u16; 48]; 48]) -> usize
 
 // The jobs, from the start of the output on.
 fn write_jobs(out: &mut [u8], jobs: Jobs, windows: Windows)
-    requires { ⌜ EndsFit jobs windows × (12 * length (presentIn jobs) ≤ length (now out)) ⌝ }
-    ensures { λ _. ⌜ now (out .exit) ≡ overwrite (encode jobBytes (map J (jobsIn jobs windows))) (now (out .entry)) ⌝ }
+    requires { EndsFit jobs windows × (12 * length (present_in jobs) ≤ length out.old) }
+    ensures { out.new ≡ overwrite (encode job_bytes (map J (jobs_in jobs windows))) out.old }
 {
     let mut place: usize = 0;
     let mut n: usize = 0;
@@ -90,9 +86,9 @@ fn write_jobs(out: &mut [u8], jobs: Jobs, windows: Windows)
 
 // The links from job i, from a place on: the place after them.
 fn write_row(out: &mut [u8], first: usize, links: &[[u16; 48]; 48], i: usize) -> usize
-    requires { ⌜ (i < 48) × (12 * (first + length (rowLinks (now links) i)) ≤ length (now out)) ⌝ }
-    ensures { λ r. ⌜ r ≡ first + length (rowLinks (now (links .entry)) i) ⌝ }
-    ensures { λ _. ⌜ now (out .exit) ≡ paste (now (out .entry)) (12 * first) (encode jobBytes (map L (rowLinks (now (links .entry)) i))) (12 * length (map L (rowLinks (now (links .entry)) i))) ⌝ }
+    requires { (i < 48) × (12 * (first + length (row_links links.now i)) ≤ length out.old) }
+    ensures value { result ≡ first + length (row_links links.now i) }
+    ensures out_after { out.new ≡ paste out.old (12 * first) (encode job_bytes (map L (row_links links.now i))) (12 * length (map L (row_links links.now i))) }
 {
     let mut place = first;
     let mut j: usize = 0;
@@ -118,8 +114,8 @@ fn write_row(out: &mut [u8], first: usize, links: &[[u16; 48]; 48], i: usize) ->
 
 // The links, from the start of the writer's own part of the output on.
 fn write_links(out: &mut [u8], links: [[u16; 48]; 48])
-    requires { ⌜ 12 * length (linksIn links) ≤ length (now out) ⌝ }
-    ensures { λ _. ⌜ now (out .exit) ≡ overwrite (encode jobBytes (map L (linksIn links))) (now (out .entry)) ⌝ }
+    requires { 12 * length (links_in links) ≤ length out.old }
+    ensures { out.new ≡ overwrite (encode job_bytes (map L (links_in links))) out.old }
 {
     let mut place: usize = 0;
     let mut i: usize = 0;
@@ -131,8 +127,8 @@ fn write_links(out: &mut [u8], links: [[u16; 48]; 48])
 
 // The whole normal form: links follow straight after the last job record.
 pub fn write_normal(out: &mut [u8], jobs: Jobs, windows: Windows, links: [[u16; 48]; 48])
-    requires { ⌜ EndsFit jobs windows × (12 * (length (presentIn jobs) + length (linksIn links)) ≤ length (now out)) ⌝ }
-    ensures { λ _. ⌜ now (out .exit) ≡ overwrite (encode jobBytes (map J (jobsIn jobs windows) ++ map L (linksIn links))) (now (out .entry)) ⌝ }
+    requires { EndsFit jobs windows × (12 * (length (present_in jobs) + length (links_in links)) ≤ length out.old) }
+    ensures { out.new ≡ overwrite (encode job_bytes (map J (jobs_in jobs windows) ++ map L (links_in links))) out.old }
 {
     let middle = 12 * count_jobs(jobs);
     write_jobs(out, jobs, windows);

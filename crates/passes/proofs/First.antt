@@ -1,87 +1,87 @@
 -- The number of a pass's first job, counted over the pass numbers below its own: each of them counts with its instances, and from its own number on none does.
-use Prim.Native.Nat.{ℕ, zero, suc, _+_, _-_, _*_, _<_, _≤_}
+use Prim.Native.Nat.{ℕ, zero, suc, ◌+◌, ◌-◌, ◌<◌, ◌≤◌}
 use native.Mathlib.Omega.{arith}
-use mathlib.Core.Path.{_≡_, refl, sym, ap, _∙_}
-use mathlib.Core.Bool.{Bool, true, false, cond}
-use mathlib.Core.List.{List, [], _∷_, _++_}
+use mathlib.Core.Path.{◌≡◌, refl, sym, ap, ◌∙◌}
+use mathlib.Core.Bool.{Bool, true, false}
+use mathlib.Core.List.{List, ◌++◌}
 use lib.Dec.{ltb}
-use lib.ListN.{getD}
+use lib.ListN.{get_or}
 use borrow.Author.Tests.{lt-ltb, le-ltb, ltb-true, ltb-false}
-use Rattle·laws.specs.Lists.{count, only, flat}
-use Rattle·records.specs.declared.Pass.{Pass}
-use Rattle·passes·specs.specs.declared.Passes.{Passes}
-use Rattle·passes·specs.specs.Expand.{instances, jobCount, firstJob}
-use Rattle·passes·specs.specs.Arrays.{passIn, passesAt, inOrder}
-use Rattle·passes·proofs.proofs.Numbers.{passesFrom, from-more, firstJob-append, jobCount-append}
+use Rattle.laws.specs.Lists.{count, only, flat}
+use Rattle.records.specs.declared.Pass.{Pass}
+use Rattle.passes.specs.declared.Passes.{Passes}
+use Rattle.passes.specs.Expand.{job_count, first_job}
+use Rattle.passes.specs.Arrays.{pass_in, passes_at, in_order}
+use Rattle.passes.proofs.Numbers.{passes_from, from_more, first_job_append, job_count_append}
 
 module _ (passes : Passes) (cycle : ℕ) where
   -- a pass of lower number counts with its instances
-  lower-counts : (m n : ℕ) → m < n → firstJob cycle (passesAt passes m) n ≡ jobCount cycle (passesAt passes m)
-  unfolding firstJob jobCount passesAt passIn
-  lower-counts m n h = go (getD (passes .present) m false)
+  lower_counts : (m n : ℕ) → m < n → first_job cycle (passes_at passes m) n ≡ job_count cycle (passes_at passes m)
+  unfolding first_job job_count passes_at pass_in
+  lower_counts m n h = go (get_or passes.present m false)
     where
-      go : (t : Bool) → firstJob cycle (only t (passIn passes m)) n ≡ jobCount cycle (only t (passIn passes m))
+      go : (t : Bool) → first_job cycle (only t (pass_in passes m)) n ≡ job_count cycle (only t (pass_in passes m))
       go true = rw (lt-ltb m n h)
       go false = refl
 
   -- a pass of no lower number does not count
-  higher-not : (m n : ℕ) → n ≤ m → firstJob cycle (passesAt passes m) n ≡ 0
-  unfolding firstJob passesAt passIn
-  higher-not m n h = go (getD (passes .present) m false)
+  higher_not : (m n : ℕ) → n ≤ m → first_job cycle (passes_at passes m) n ≡ 0
+  unfolding first_job passes_at pass_in
+  higher_not m n h = go (get_or passes.present m false)
     where
-      go : (t : Bool) → firstJob cycle (only t (passIn passes m)) n ≡ 0
+      go : (t : Bool) → first_job cycle (only t (pass_in passes m)) n ≡ 0
       go true = rw (le-ltb m n h)
       go false = refl
 
   -- a turn of the loop that counts them
-  pub first-more : (m n first : ℕ) {r w : ℕ} → m < 24 → m < n → r ≡ jobCount cycle (passesAt passes m) → w ≡ first + firstJob cycle (passesFrom passes m) n
-      → w ≡ first + r + firstJob cycle (passesFrom passes (m + 1)) n
-  first-more m n first low h here whole =
-      let split = ap (λ ps. firstJob cycle ps n) (from-more passes m low) ∙ firstJob-append cycle (passesAt passes m) (passesFrom passes (m + 1)) n in
-      omega (arith, lower-counts m n h)
+  pub first_more : (m n first : ℕ) {r w : ℕ} → m < 24 → m < n → r ≡ job_count cycle (passes_at passes m) → w ≡ first + first_job cycle (passes_from passes m) n
+      → w ≡ first + r + first_job cycle (passes_from passes (m + 1)) n
+  first_more m n first low h here whole =
+      let split = ap (λ ps. first_job cycle ps n) (from_more passes m low) ∙ first_job_append cycle (passes_at passes m) (passes_from passes (m + 1)) n in
+      omega (arith, lower_counts m n h)
 
   -- no pass from a number on counts for it
-  none-counts : (m k n : ℕ) → n ≤ m → firstJob cycle (flat (passesAt passes) (count m k)) n ≡ 0
-  unfolding firstJob
-  none-counts m zero n h = refl
-  none-counts m (suc k) n h = omega (arith, firstJob-append cycle (passesAt passes m) (flat (passesAt passes) (count (m + 1) k)) n, higher-not m n h, none-counts (m + 1) k n (omega arith))
+  none_counts : (m k n : ℕ) → n ≤ m → first_job cycle (flat (passes_at passes) (count m k)) n ≡ 0
+  unfolding first_job
+  none_counts m zero n h = refl
+  none_counts m (suc k) n h = omega (arith, first_job_append cycle (passes_at passes m) (flat (passes_at passes) (count (m + 1) k)) n, higher_not m n h, none_counts (m + 1) k n (omega arith))
 
   -- the loop's end
-  pub first-end : (m n first : ℕ) {w : ℕ} → n ≤ m → w ≡ first + firstJob cycle (passesFrom passes m) n → first ≡ w
-  first-end m n first h whole = omega (arith, none-counts m (24 - m) n h)
+  pub first_end : (m n first : ℕ) {w : ℕ} → n ≤ m → w ≡ first + first_job cycle (passes_from passes m) n → first ≡ w
+  first_end m n first h whole = omega (arith, none_counts m (24 - m) n h)
 
   -- a pass's jobs stand before those of a higher number
-  pub first-order : (n m : ℕ) → n < 24 → n < m → firstJob cycle (inOrder passes) n + jobCount cycle (passesAt passes n) ≤ firstJob cycle (inOrder passes) m
-  unfolding inOrder
-  first-order n m h l = go 0 24 (omega arith) (omega arith)
+  pub first_order : (n m : ℕ) → n < 24 → n < m → first_job cycle (in_order passes) n + job_count cycle (passes_at passes n) ≤ first_job cycle (in_order passes) m
+  unfolding in_order
+  first_order n m h l = go 0 24 (omega arith) (omega arith)
     where
-      go : (s k : ℕ) → s ≤ n → n < s + k → firstJob cycle (flat (passesAt passes) (count s k)) n + jobCount cycle (passesAt passes n) ≤ firstJob cycle (flat (passesAt passes) (count s k)) m
+      go : (s k : ℕ) → s ≤ n → n < s + k → first_job cycle (flat (passes_at passes) (count s k)) n + job_count cycle (passes_at passes n) ≤ first_job cycle (flat (passes_at passes) (count s k)) m
       go s zero low high = absurd (omega arith)
       go s (suc k) low high = step (ltb s n) refl (go (s + 1) k)
         where
           rest : List Pass
-          rest = flat (passesAt passes) (count (s + 1) k)
+          rest = flat (passes_at passes) (count (s + 1) k)
 
-          step : (t : Bool) → ltb s n ≡ t → (s + 1 ≤ n → n < s + 1 + k → firstJob cycle rest n + jobCount cycle (passesAt passes n) ≤ firstJob cycle rest m)
-              → firstJob cycle (passesAt passes s ++ rest) n + jobCount cycle (passesAt passes n) ≤ firstJob cycle (passesAt passes s ++ rest) m
+          step : (t : Bool) → ltb s n ≡ t → (s + 1 ≤ n → n < s + 1 + k → first_job cycle rest n + job_count cycle (passes_at passes n) ≤ first_job cycle rest m)
+              → first_job cycle (passes_at passes s ++ rest) n + job_count cycle (passes_at passes n) ≤ first_job cycle (passes_at passes s ++ rest) m
           step true e below =
               let before : s < n = ltb-true s n e in
-              omega (arith, firstJob-append cycle (passesAt passes s) rest n, firstJob-append cycle (passesAt passes s) rest m, lower-counts s n before, lower-counts s m (omega arith), below (omega arith) (omega arith))
+              omega (arith, first_job_append cycle (passes_at passes s) rest n, first_job_append cycle (passes_at passes s) rest m, lower_counts s n before, lower_counts s m (omega arith), below (omega arith) (omega arith))
           step false e below =
               let here : s ≡ n = omega (arith, ltb-false s n e) in
-              let own : jobCount cycle (passesAt passes n) ≡ jobCount cycle (passesAt passes s) = ap (λ k. jobCount cycle (passesAt passes k)) (sym here) in
-              omega (arith, own, firstJob-append cycle (passesAt passes s) rest n, firstJob-append cycle (passesAt passes s) rest m, higher-not s n (omega arith), none-counts (s + 1) k n (omega arith), lower-counts s m (omega arith))
+              let own : job_count cycle (passes_at passes n) ≡ job_count cycle (passes_at passes s) = ap (λ k. job_count cycle (passes_at passes k)) (sym here) in
+              omega (arith, own, first_job_append cycle (passes_at passes s) rest n, first_job_append cycle (passes_at passes s) rest m, higher_not s n (omega arith), none_counts (s + 1) k n (omega arith), lower_counts s m (omega arith))
 
   -- all jobs stand before the number 24
-  pub first-all : firstJob cycle (inOrder passes) 24 ≡ jobCount cycle (inOrder passes)
-  unfolding inOrder firstJob jobCount
-  first-all = go 0 24 (omega arith)
+  pub first_all : first_job cycle (in_order passes) 24 ≡ job_count cycle (in_order passes)
+  unfolding in_order first_job job_count
+  first_all = go 0 24 (omega arith)
     where
-      go : (s k : ℕ) → s + k ≤ 24 → firstJob cycle (flat (passesAt passes) (count s k)) 24 ≡ jobCount cycle (flat (passesAt passes) (count s k))
+      go : (s k : ℕ) → s + k ≤ 24 → first_job cycle (flat (passes_at passes) (count s k)) 24 ≡ job_count cycle (flat (passes_at passes) (count s k))
       go s zero h = refl
       go s (suc k) h =
-          omega (arith, firstJob-append cycle (passesAt passes s) (flat (passesAt passes) (count (s + 1) k)) 24, jobCount-append cycle (passesAt passes s) (flat (passesAt passes) (count (s + 1) k)), lower-counts s 24 (omega arith), go (s + 1) k (omega arith))
+          omega (arith, first_job_append cycle (passes_at passes s) (flat (passes_at passes) (count (s + 1) k)) 24, job_count_append cycle (passes_at passes s) (flat (passes_at passes) (count (s + 1) k)), lower_counts s 24 (omega arith), go (s + 1) k (omega arith))
 
   -- so a pass's jobs and those before it are among all jobs
-  pub first-within : (n : ℕ) → n < 24 → firstJob cycle (inOrder passes) n + jobCount cycle (passesAt passes n) ≤ jobCount cycle (inOrder passes)
-  first-within n h = omega (arith, first-order n 24 h h, first-all)
+  pub first_within : (n : ℕ) → n < 24 → first_job cycle (in_order passes) n + job_count cycle (passes_at passes n) ≤ job_count cycle (in_order passes)
+  first_within n h = omega (arith, first_order n 24 h h, first_all)

@@ -1,46 +1,46 @@
 -- The arrays hold the table's passes: what they have at a number below 24 is the pass with that number, so that they list the same passes in the same order.
-use Prim.Native.Nat.{ℕ, _<_}
+use Prim.Native.Nat.{ℕ, ◌<◌}
 use native.Mathlib.Omega.{arith}
-use mathlib.Core.Path.{_≡_, refl, sym, ap, _∙_}
+use mathlib.Core.Path.{◌≡◌, sym, ◌∙◌}
 use mathlib.Core.Bool.{false}
 use mathlib.Core.List.{List}
-use lib.ListN.{getD}
-use Rattle·laws.specs.Lists.{count, only, any}
-use Rattle·laws.proofs.Members.{count-member, flat-same, member-every}
-use Rattle·laws.proofs.Sizes.{map-keep}
-use Rattle·laws.proofs.Rows.{getD-row}
-use Rattle·records.specs.declared.PassRecord.{PassRecord}
-use Rattle·passes·specs.specs.Judge.{isPass}
-use Rattle·passes·specs.specs.Expand.{ofPass, passAt, passesInOrder}
-use Rattle·passes·specs.specs.Arrays.{passesOf, passIn, passesAt, inOrder, Timely, AllTimely}
-use Rattle·passes·proofs.proofs.Sound.{Sound, order-limits}
+use lib.ListN.{get_or}
+use Rattle.laws.specs.Lists.{count, only, any}
+use Rattle.laws.proofs.Members.{count_member, flat_same, member_every}
+use Rattle.laws.proofs.Sizes.{map_keep}
+use Rattle.laws.proofs.Rows.{get_d_row}
+use Rattle.records.specs.declared.PassRecord.{PassRecord}
+use Rattle.passes.specs.Judge.{is_pass}
+use Rattle.passes.specs.Expand.{of_pass, pass_at, passes_in_order}
+use Rattle.passes.specs.Arrays.{passes_of, pass_in, passes_at, in_order, Timely, AllTimely}
+use Rattle.passes.proofs.Sound.{Sound, order_limits}
 
 module _ (table : List PassRecord) where
   module _ (n : ℕ) (h : n < 24) where
     -- the mark at a number says whether the table has the pass
-    pub held-mark : getD (passesOf table .present) n false ≡ any (isPass n) table
-    unfolding passesOf
-    held-mark = getD-row (λ n. any (isPass n) table) 24 n false h
+    pub held_mark : get_or (passes_of table).present n false ≡ any (is_pass n) table
+    unfolding passes_of
+    held_mark = get_d_row (λ n. any (is_pass n) table) 24 n false h
 
     -- the values there are the pass's
-    pub held-pass : passIn (passesOf table) n ≡ passAt table n
-    unfolding passesOf passIn passAt
-    held-pass =
-        rw (getD-row (ofPass (λ p. p .cost) table) 24 n 0 h, getD-row (ofPass (λ p. p .period) table) 24 n 0 h, getD-row (ofPass (λ p. p .phase) table) 24 n 0 h, getD-row (ofPass (λ p. p .within) table) 24 n 0 h)
+    pub held_pass : pass_in (passes_of table) n ≡ pass_at table n
+    unfolding passes_of pass_in pass_at
+    held_pass =
+        rw (get_d_row (of_pass (λ p. p.cost) table) 24 n 0 h, get_d_row (of_pass (λ p. p.period) table) 24 n 0 h, get_d_row (of_pass (λ p. p.phase) table) 24 n 0 h, get_d_row (of_pass (λ p. p.within) table) 24 n 0 h)
 
     -- so is its list
-    pub held-list : passesAt (passesOf table) n ≡ only (any (isPass n) table) (passAt table n)
-    unfolding passesAt
-    held-list = rw (held-mark, held-pass)
+    pub held_list : passes_at (passes_of table) n ≡ only (any (is_pass n) table) (pass_at table n)
+    unfolding passes_at
+    held_list = rw (held_mark, held_pass)
 
   -- the passes in order are those of the table
-  pub held-order : inOrder (passesOf table) ≡ passesInOrder table
-  unfolding inOrder passesInOrder
-  held-order =
-      flat-same (passesAt (passesOf table)) (λ n. only (any (isPass n) table) (passAt table n)) (count 0 24) (λ n m. let b = count-member 0 24 n .0 m in held-list n (omega arith))
-      ∙ sym (map-keep (passAt table) (λ n. any (isPass n) table) (count 0 24))
+  pub held_order : in_order (passes_of table) ≡ passes_in_order table
+  unfolding in_order passes_in_order
+  held_order =
+      flat_same (passes_at (passes_of table)) (λ n. only (any (is_pass n) table) (pass_at table n)) (count 0 24) (λ n m. let b = (count_member 0 24 n).0 m in held_list n (omega arith))
+      ∙ sym (map_keep (pass_at table) (λ n. any (is_pass n) table) (count 0 24))
 
   -- where 3, 4 and 5 do not hold, each has a window within its period
-  pub held-timely : Sound table → AllTimely (passesOf table)
+  pub held_timely : Sound table → AllTimely (passes_of table)
   unfolding AllTimely
-  held-timely sound = rw held-order (member-every Timely (passesInOrder table) (λ p m. order-limits table sound p m .1))
+  held_timely sound = rw held_order (member_every Timely (passes_in_order table) (λ p m. (order_limits table sound p m).1))

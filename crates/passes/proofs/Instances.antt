@@ -1,109 +1,108 @@
 -- The jobs of a pass, written one behind the other: a turn of the loop writes instance k, and those from the next instance on are left.
-use Prim.Native.Nat.{ℕ, _+_, _-_, _*_, _<_, _≤_}
-use native.Mathlib.Nat.{suc-mul, div-mul-le-self}
-use native.Mathlib.Numerals.{add-one}
+use Prim.Native.Nat.{ℕ, ◌+◌, ◌-◌, ◌*◌, ◌<◌, ◌≤◌}
+use native.Mathlib.Nat.{suc-mul, div-mul-le_self}
 use native.Mathlib.Omega.{arith}
-use mathlib.Core.Path.{_≡_, refl, sym, ap, _∙_}
+use mathlib.Core.Path.{◌≡◌, refl, ap, ◌∙◌}
 use mathlib.Core.Bool.{true, false}
-use mathlib.Core.List.{List, [], _∷_, _++_, map, append-nil, map-append}
-use lib.ListN.{length, getD, length-map, length-append}
+use mathlib.Core.List.{List, [], ◌∷◌, ◌++◌, map, append-nil, map-append}
+use lib.ListN.{length, get_or, length-map, length-append}
 use lib.Seq.{paste}
-use Rattle·laws.specs.Lists.{count}
-use Rattle·laws.proofs.Rows.{length-row}
-use Rattle·laws.proofs.Counting.{count-more, count-end}
-use Rattle·records.specs.Record.{jobBytes}
-use Rattle·records.specs.declared.Pass.{Pass}
-use Rattle·records.specs.declared.JobRecord.{JobRecord}
-use Rattle·records.specs.declared.JobRecord.the-variants.{J}
-use Rattle·records.proofs.Codec.{jobs}
-use Rattle·records.proofs.Writing.{written, written-none, written-one, written-more, written-end}
-use Rattle·passes·specs.specs.declared.Passes.{Passes}
-use Rattle·passes·specs.specs.Expand.{instances, instanceOf, jobsFrom, jobCount}
-use Rattle·passes·specs.specs.Arrays.{passIn, passesAt}
-use Rattle·passes·proofs.proofs.Ceiling.{at-absent, at-present}
-use Rattle·passes·proofs.proofs.Numbers.{passesFrom, from-more, from-end, jobs-append}
+use Rattle.laws.specs.Lists.{count}
+use Rattle.laws.proofs.Rows.{length_row}
+use Rattle.laws.proofs.Counting.{count_more, count_end}
+use Rattle.records.specs.Record.{job_bytes}
+use Rattle.records.specs.declared.Pass.{Pass}
+use Rattle.records.specs.declared.JobRecord.{JobRecord}
+use Rattle.records.specs.declared.JobRecord.TheVariants.{J}
+use Rattle.records.proofs.Codec.{jobs}
+use Rattle.records.proofs.Writing.{written, written_none, written_one, written_more, written_end}
+use Rattle.passes.specs.declared.Passes.{Passes}
+use Rattle.passes.specs.Expand.{instances, instance_of, jobs_from, job_count}
+use Rattle.passes.specs.Arrays.{pass_in, passes_at}
+use Rattle.passes.proofs.Ceiling.{at_absent, at_present}
+use Rattle.passes.proofs.Numbers.{passes_from, from_more, from_end, jobs_append}
 
 -- what k periods take is what those before it take and one more
 pub periods : (k t : ℕ) → 1 ≤ k → k * t ≡ (k - 1) * t + t
 periods k t h = ap (λ n. n * t) (omega arith) ∙ suc-mul (k - 1) t
 
 -- the records of the instances from k on, up to but without e
-abbrev pub instancesFrom : Pass → ℕ → ℕ → ℕ → List JobRecord
-instancesFrom pass first k e = map J (map (instanceOf pass first) (count k (e - k)))
+abbrev pub instances_from : Pass → ℕ → ℕ → ℕ → List JobRecord
+instances_from pass first k e = map J (map (instance_of pass first) (count k (e - k)))
 
 -- the loop's begin: all are left
-pub instances-start : (pass : Pass) (first times : ℕ) (out : List ℕ)
-    → written jobBytes out (first + (1 - 1)) (instancesFrom pass first 1 (times + 1)) ≡ written jobBytes out first (map J (map (instanceOf pass first) (count 1 times)))
-instances-start pass first times out =
+pub instances_start : (pass : Pass) (first times : ℕ) (out : List ℕ)
+    → written job_bytes out (first + (1 - 1)) (instances_from pass first 1 (times + 1)) ≡ written job_bytes out first (map J (map (instance_of pass first) (count 1 times)))
+instances_start pass first times out =
     let here : first + (1 - 1) ≡ first = omega arith in
     let all : times + 1 - 1 ≡ times = omega arith in
     rw (here, all)
 
-module _ (pass : Pass) (first k e : ℕ) (out : List ℕ) {goal : List ℕ} (left : written jobBytes out (first + (k - 1)) (instancesFrom pass first k e) ≡ goal) where
+module _ (pass : Pass) (first k e : ℕ) (out : List ℕ) {goal : List ℕ} (left : written job_bytes out (first + (k - 1)) (instances_from pass first k e) ≡ goal) where
   -- a turn of the loop that writes them
-  pub instances-more : {after : List ℕ} → 1 ≤ k → k < e → 12 * (first + k) ≤ length out → after ≡ paste out (12 * (first + (k - 1))) (jobBytes (J (instanceOf pass first k))) 12
-      → written jobBytes after (first + (k + 1 - 1)) (instancesFrom pass first (k + 1) e) ≡ goal
-  instances-more low h room wrote =
-      written-more jobs out (first + (k - 1)) (first + (k + 1 - 1)) (instancesFrom pass first k e) (J (instanceOf pass first k) ∷ []) (instancesFrom pass first (k + 1) e)
-      (ap (λ ks. map J (map (instanceOf pass first) ks)) (count-more k e h)) (omega arith) (wrote ∙ written-one jobs out (first + (k - 1)) (J (instanceOf pass first k))) (omega arith) left
+  pub instances_more : {after : List ℕ} → 1 ≤ k → k < e → 12 * (first + k) ≤ length out → after ≡ paste out (12 * (first + (k - 1))) (job_bytes (J (instance_of pass first k))) 12
+      → written job_bytes after (first + (k + 1 - 1)) (instances_from pass first (k + 1) e) ≡ goal
+  instances_more low h room wrote =
+      written_more jobs out (first + (k - 1)) (first + (k + 1 - 1)) (instances_from pass first k e) (J (instance_of pass first k) ∷ []) (instances_from pass first (k + 1) e)
+      (ap (λ ks. map J (map (instance_of pass first) ks)) (count_more k e h)) (omega arith) (wrote ∙ written_one jobs out (first + (k - 1)) (J (instance_of pass first k))) (omega arith) left
 
   -- its end: all are written
-  pub instances-end : e ≤ k → out ≡ goal
-  instances-end h = written-end jobs out (first + (k - 1)) (instancesFrom pass first k e) (ap (λ ks. map J (map (instanceOf pass first) ks)) (count-end k e h)) left
+  pub instances_end : e ≤ k → out ≡ goal
+  instances_end h = written_end jobs out (first + (k - 1)) (instances_from pass first k e) (ap (λ ks. map J (map (instance_of pass first) ks)) (count_end k e h)) left
 
 module _ (passes : Passes) (n cycle first : ℕ) where
   -- where there is no pass, no job is written
-  pub no-jobs : getD (passes .present) n false ≡ false → (out : List ℕ)
-      → (first ≡ first + jobCount cycle (passesAt passes n)) × (out ≡ written jobBytes out first (map J (jobsFrom cycle first (passesAt passes n))))
-  unfolding jobCount jobsFrom
-  no-jobs e out = rw (at-absent passes n e) (omega arith, written-none jobs out first)
+  pub no_jobs : get_or passes.present n false ≡ false → (out : List ℕ)
+      → (first ≡ first + job_count cycle (passes_at passes n)) × (out ≡ written job_bytes out first (map J (jobs_from cycle first (passes_at passes n))))
+  unfolding job_count jobs_from
+  no_jobs e out = rw (at_absent passes n e) (omega arith, written_none jobs out first)
 
-  module _ (e : getD (passes .present) n false ≡ true) {times : ℕ} (here : times ≡ jobCount cycle (passesAt passes n)) where
+  module _ (e : get_or passes.present n false ≡ true) {times : ℕ} (here : times ≡ job_count cycle (passes_at passes n)) where
     -- where there is one, its instances are as many as its period goes into the cycle
-    times-of : times ≡ instances cycle (passIn passes n)
-    unfolding jobCount
-    times-of = let one = ap (jobCount cycle) (at-present passes n e) in omega arith
+    times_of : times ≡ instances cycle (pass_in passes n)
+    unfolding job_count
+    times_of = let one = ap (job_count cycle) (at_present passes n e) in omega arith
 
     -- their periods are within the cycle
-    pub times-span : times * passIn passes n .period ≤ cycle
+    pub times_span : times * (pass_in passes n).period ≤ cycle
     unfolding instances
-    times-span = rw times-of (div-mul-le-self cycle (passIn passes n .period))
+    times_span = rw times_of (div-mul-le_self cycle (pass_in passes n).period)
 
     -- and they are its jobs
-    pub pass-jobs : (out : List ℕ) {after : List ℕ} → after ≡ written jobBytes out first (map J (map (instanceOf (passIn passes n) first) (count 1 times)))
-        → after ≡ written jobBytes out first (map J (jobsFrom cycle first (passesAt passes n)))
-    unfolding jobsFrom
-    pass-jobs out wrote = wrote ∙ ap (λ rs. written jobBytes out first rs) same
+    pub pass_jobs : (out : List ℕ) {after : List ℕ} → after ≡ written job_bytes out first (map J (map (instance_of (pass_in passes n) first) (count 1 times)))
+        → after ≡ written job_bytes out first (map J (jobs_from cycle first (passes_at passes n)))
+    unfolding jobs_from
+    pass_jobs out wrote = wrote ∙ ap (λ rs. written job_bytes out first rs) same
       where
-        same : map J (map (instanceOf (passIn passes n) first) (count 1 times)) ≡ map J (jobsFrom cycle first (passesAt passes n))
-        same = rw (at-present passes n e, times-of, append-nil (map (instanceOf (passIn passes n) first) (count 1 (instances cycle (passIn passes n)))))
+        same : map J (map (instance_of (pass_in passes n) first) (count 1 times)) ≡ map J (jobs_from cycle first (passes_at passes n))
+        same = rw (at_present passes n e, times_of, append-nil (map (instance_of (pass_in passes n) first) (count 1 (instances cycle (pass_in passes n)))))
 
 -- as many jobs are written as the passes have
-pub length-jobs : (cycle first : ℕ) (ps : List Pass) → length (map J (jobsFrom cycle first ps)) ≡ jobCount cycle ps
-unfolding jobsFrom jobCount
-length-jobs cycle first ps = length-map (jobsFrom cycle first ps) J ∙ go first ps
+pub length_jobs : (cycle first : ℕ) (ps : List Pass) → length (map J (jobs_from cycle first ps)) ≡ job_count cycle ps
+unfolding jobs_from job_count
+length_jobs cycle first ps = length-map (jobs_from cycle first ps) J ∙ go first ps
   where
-    go : (first : ℕ) (ps : List Pass) → length (jobsFrom cycle first ps) ≡ jobCount cycle ps
+    go : (first : ℕ) (ps : List Pass) → length (jobs_from cycle first ps) ≡ job_count cycle ps
     go first [] = refl
     go first (p ∷ ps) =
-        omega (arith, length-append (map (instanceOf p first) (count 1 (instances cycle p))) (jobsFrom cycle (first + instances cycle p) ps), length-row (instanceOf p first) 1 (instances cycle p), go (first + instances cycle p) ps)
+        omega (arith, length-append (map (instance_of p first) (count 1 (instances cycle p))) (jobs_from cycle (first + instances cycle p) ps), length_row (instance_of p first) 1 (instances cycle p), go (first + instances cycle p) ps)
 
-module _ (passes : Passes) (n cycle first : ℕ) (out : List ℕ) {goal : List ℕ} (left : written jobBytes out first (map J (jobsFrom cycle first (passesFrom passes n))) ≡ goal) where
+module _ (passes : Passes) (n cycle first : ℕ) (out : List ℕ) {goal : List ℕ} (left : written job_bytes out first (map J (jobs_from cycle first (passes_from passes n))) ≡ goal) where
   -- a turn of the loop that writes the jobs of all passes: those of the pass with this number are written, and those from the next number on are left
-  pub jobs-more : {after : List ℕ} (next : ℕ) → n < 24 → 12 * (first + jobCount cycle (passesAt passes n)) ≤ length out
-      → after ≡ written jobBytes out first (map J (jobsFrom cycle first (passesAt passes n))) → next ≡ first + jobCount cycle (passesAt passes n)
-      → written jobBytes after next (map J (jobsFrom cycle next (passesFrom passes (n + 1)))) ≡ goal
-  jobs-more next h room wrote on =
-      written-more jobs out first next (map J (jobsFrom cycle first (passesFrom passes n))) (map J (jobsFrom cycle first (passesAt passes n))) (map J (jobsFrom cycle next (passesFrom passes (n + 1))))
+  pub jobs_more : {after : List ℕ} (next : ℕ) → n < 24 → 12 * (first + job_count cycle (passes_at passes n)) ≤ length out
+      → after ≡ written job_bytes out first (map J (jobs_from cycle first (passes_at passes n))) → next ≡ first + job_count cycle (passes_at passes n)
+      → written job_bytes after next (map J (jobs_from cycle next (passes_from passes (n + 1)))) ≡ goal
+  jobs_more next h room wrote on =
+      written_more jobs out first next (map J (jobs_from cycle first (passes_from passes n))) (map J (jobs_from cycle first (passes_at passes n))) (map J (jobs_from cycle next (passes_from passes (n + 1))))
       (rw on parts) (omega (arith, many)) wrote (omega (arith, many)) left
     where
-      many : length (map J (jobsFrom cycle first (passesAt passes n))) ≡ jobCount cycle (passesAt passes n)
-      many = length-jobs cycle first (passesAt passes n)
+      many : length (map J (jobs_from cycle first (passes_at passes n))) ≡ job_count cycle (passes_at passes n)
+      many = length_jobs cycle first (passes_at passes n)
 
-      parts : map J (jobsFrom cycle first (passesFrom passes n)) ≡ map J (jobsFrom cycle first (passesAt passes n)) ++ map J (jobsFrom cycle (first + jobCount cycle (passesAt passes n)) (passesFrom passes (n + 1)))
-      parts = ap (λ ps. map J (jobsFrom cycle first ps)) (from-more passes n h) ∙ ap (map J) (jobs-append cycle first (passesAt passes n) (passesFrom passes (n + 1))) ∙ map-append J (jobsFrom cycle first (passesAt passes n)) (jobsFrom cycle (first + jobCount cycle (passesAt passes n)) (passesFrom passes (n + 1)))
+      parts : map J (jobs_from cycle first (passes_from passes n)) ≡ map J (jobs_from cycle first (passes_at passes n)) ++ map J (jobs_from cycle (first + job_count cycle (passes_at passes n)) (passes_from passes (n + 1)))
+      parts = ap (λ ps. map J (jobs_from cycle first ps)) (from_more passes n h) ∙ ap (map J) (jobs_append cycle first (passes_at passes n) (passes_from passes (n + 1))) ∙ map-append J (jobs_from cycle first (passes_at passes n)) (jobs_from cycle (first + job_count cycle (passes_at passes n)) (passes_from passes (n + 1)))
 
   -- its end: all are written
-  pub jobs-end : 24 ≤ n → out ≡ goal
-  unfolding jobsFrom
-  jobs-end h = written-end jobs out first (map J (jobsFrom cycle first (passesFrom passes n))) (ap (λ ps. map J (jobsFrom cycle first ps)) (from-end passes n h)) left
+  pub jobs_end : 24 ≤ n → out ≡ goal
+  unfolding jobs_from
+  jobs_end h = written_end jobs out first (map J (jobs_from cycle first (passes_from passes n))) (ap (λ ps. map J (jobs_from cycle first ps)) (from_end passes n h)) left

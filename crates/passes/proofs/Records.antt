@@ -1,58 +1,58 @@
 -- What a loop over a pass table's records learns from the reader's answers: which record is the next one, and where the first that cannot be read is.
 -- The reader's answer says what the definition of reading says, so each law is that of any table, told of the answer.
-use Prim.Native.Nat.{ℕ, _+_, _*_, _<_, _≤_}
+use Prim.Native.Nat.{ℕ, ◌+◌, ◌*◌, ◌<◌, ◌≤◌}
 use native.Mathlib.Omega.{arith}
-use mathlib.Core.Path.{_≡_, refl, sym, ap}
+use mathlib.Core.Path.{◌≡◌, refl, sym, ap}
 use mathlib.Core.List.{List}
 use mathlib.Core.Option.{Option, none, some}
 use lib.ListN.{length}
-use Rattle·laws.proofs.Walking.{Next}
-use Rattle·records.specs.Bytes.{recordAt}
-use Rattle·records.specs.Record.{inPasses, passRead}
-use Rattle·records.specs.Table.{readAll, unreadable, asFound}
-use Rattle·records.specs.declared.PassRecord.{PassRecord}
-use Rattle·records.specs.declared.PassRead.{PassRead}
-use Rattle·records.specs.declared.PassRead.the-variants.{Record, Unreadable}
-use Rattle·records.specs.declared.table.Found.the-variants.{At, Nothing}
-use Rattle·records.proofs.Reading.{UnreadableFrom, unreadable-step, unreadable-here, unreadable-end, length-decode, can-read, next-record}
-use Rattle·passes·specs.specs.Call.{passTable}
+use Rattle.laws.proofs.Walking.{Next}
+use Rattle.records.specs.Bytes.{record_at}
+use Rattle.records.specs.Record.{in_passes, pass_read}
+use Rattle.records.specs.Table.{read_all, unreadable, as_found}
+use Rattle.records.specs.declared.PassRecord.{PassRecord}
+use Rattle.records.specs.declared.PassRead.{PassRead}
+use Rattle.records.specs.declared.PassRead.TheVariants.{Record, Unreadable}
+use Rattle.records.specs.declared.table.Found.TheVariants.{At, Nothing}
+use Rattle.records.proofs.Reading.{UnreadableFrom, unreadable_step, unreadable_here, unreadable_end, length_decode, can_read, next_record}
+use Rattle.passes.specs.Call.{pass_table}
 
 -- a record that the reader answers is what is read
-read-some : (o : Option PassRecord) {answer : PassRead} {r : PassRecord} → answer ≡ passRead o → answer ≡ Record r → o ≡ some r
-read-some none e f = let z : _≡_ {A = ℕ} 0 1 = cc in absurd (omega arith)
-read-some (some r) e f = cc
+read_some : (o : Option PassRecord) {answer : PassRead} {r : PassRecord} → answer ≡ pass_read o → answer ≡ Record r → o ≡ some r
+read_some none e f = let z : ◌≡◌ {A = ℕ} 0 1 = cc in absurd (omega arith)
+read_some (some r) e f = cc
 
 -- where it answers none, none is read
-read-none : (o : Option PassRecord) {answer : PassRead} → answer ≡ passRead o → answer ≡ Unreadable → o ≡ none
-read-none none e f = refl
-read-none (some r) e f = let z : _≡_ {A = ℕ} 0 1 = cc in absurd (omega arith)
+read_none : (o : Option PassRecord) {answer : PassRead} → answer ≡ pass_read o → answer ≡ Unreadable → o ≡ none
+read_none none e f = refl
+read_none (some r) e f = let z : ◌≡◌ {A = ℕ} 0 1 = cc in absurd (omega arith)
 
 module _ (bytes : List ℕ) (n : ℕ) (whole : length bytes ≡ 12 * n) where
   -- 2: a record that is answered is passed
-  pub readable-passed : (i : ℕ) {answer : PassRead} {r : PassRecord} → i < n → answer ≡ passRead (inPasses (recordAt bytes i)) → answer ≡ Record r
-      → UnreadableFrom inPasses bytes i → UnreadableFrom inPasses bytes (i + 1)
-  readable-passed i h e f = unreadable-step inPasses bytes n whole i h (read-some (inPasses (recordAt bytes i)) e f)
+  pub readable_passed : (i : ℕ) {answer : PassRead} {r : PassRecord} → i < n → answer ≡ pass_read (in_passes (record_at bytes i)) → answer ≡ Record r
+      → UnreadableFrom in_passes bytes i → UnreadableFrom in_passes bytes (i + 1)
+  readable_passed i h e f = unreadable_step in_passes bytes n whole i h (read_some (in_passes (record_at bytes i)) e f)
 
   -- 2: one that is not is the first
-  pub unreadable-found : (i : ℕ) {answer : PassRead} → i < n → answer ≡ passRead (inPasses (recordAt bytes i)) → answer ≡ Unreadable
-      → UnreadableFrom inPasses bytes i → At i ≡ asFound (unreadable (readAll inPasses bytes))
-  unreadable-found i h e f from = sym (ap asFound (unreadable-here inPasses bytes n whole i h (read-none (inPasses (recordAt bytes i)) e f) from))
+  pub unreadable_found : (i : ℕ) {answer : PassRead} → i < n → answer ≡ pass_read (in_passes (record_at bytes i)) → answer ≡ Unreadable
+      → UnreadableFrom in_passes bytes i → At i ≡ as_found (unreadable (read_all in_passes bytes))
+  unreadable_found i h e f from = sym (ap as_found (unreadable_here in_passes bytes n whole i h (read_none (in_passes (record_at bytes i)) e f) from))
 
   -- 2: at the end there is none
-  pub unreadable-nothing : (i : ℕ) → n ≤ i → UnreadableFrom inPasses bytes i → Nothing ≡ asFound (unreadable (readAll inPasses bytes))
-  unreadable-nothing i h from = sym (ap asFound (unreadable-end inPasses bytes n whole i h from))
+  pub unreadable_nothing : (i : ℕ) → n ≤ i → UnreadableFrom in_passes bytes i → Nothing ≡ as_found (unreadable (read_all in_passes bytes))
+  unreadable_nothing i h from = sym (ap as_found (unreadable_end in_passes bytes n whole i h from))
 
-  module _ (all-read : unreadable (readAll inPasses bytes) ≡ none) where
+  module _ (all_read : unreadable (read_all in_passes bytes) ≡ none) where
     -- where all records can be read, the one that is answered is the next of the table
-    pub next-pass : (i : ℕ) {answer : PassRead} {r : PassRecord} → i < n → answer ≡ passRead (inPasses (recordAt bytes i)) → answer ≡ Record r → Next (passTable bytes) i r
-    unfolding passTable
-    next-pass i h e f = next-record inPasses bytes n whole all-read i h (read-some (inPasses (recordAt bytes i)) e f)
+    pub next_pass : (i : ℕ) {answer : PassRead} {r : PassRecord} → i < n → answer ≡ pass_read (in_passes (record_at bytes i)) → answer ≡ Record r → Next (pass_table bytes) i r
+    unfolding pass_table
+    next_pass i h e f = next_record in_passes bytes n whole all_read i h (read_some (in_passes (record_at bytes i)) e f)
 
     -- and one is always answered
-    pub always-read : (i : ℕ) {answer : PassRead} → i < n → answer ≡ passRead (inPasses (recordAt bytes i)) → answer ≡ Unreadable → ⊥
-    always-read i h e f = can-read inPasses bytes n whole all-read i h (read-none (inPasses (recordAt bytes i)) e f)
+    pub always_read : (i : ℕ) {answer : PassRead} → i < n → answer ≡ pass_read (in_passes (record_at bytes i)) → answer ≡ Unreadable → ⊥
+    always_read i h e f = can_read in_passes bytes n whole all_read i h (read_none (in_passes (record_at bytes i)) e f)
 
     -- the table has n records
-    pub length-table : length (passTable bytes) ≡ n
-    unfolding passTable
-    length-table = length-decode inPasses bytes n whole all-read
+    pub length_table : length (pass_table bytes) ≡ n
+    unfolding pass_table
+    length_table = length_decode in_passes bytes n whole all_read

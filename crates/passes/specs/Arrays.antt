@@ -1,66 +1,62 @@
 -- A table's passes as the code holds them: arrays by pass number.
-use Prim.Native.Nat.{ℕ, _+_, _*_, _<_, _≤_}
-use mathlib.Core.Path.{_≡_}
-use mathlib.Core.Bool.{false}
-use mathlib.Core.List.{List, map}
-use lib.ListN.{length, getD}
-use lib.Seq.{paste}
-use Rattle·laws.specs.Lists.{any, count, only, flat, Every}
-use Rattle·records.specs.Record.{pass, jobBytes}
-use Rattle·records.specs.Table.{encode}
-use Rattle·records.specs.declared.Pass.{Pass}
-use Rattle·records.specs.declared.PassRecord.{PassRecord}
-use Rattle·records.specs.declared.JobRecord.{JobRecord}
-use Rattle·passes·specs.specs.Judge.{isPass}
-use Rattle·passes·specs.specs.Expand.{ofPass, passesInOrder, cycleOf, jobCount}
-use Rattle·passes·specs.specs.Call.{passTable, passesNumber}
-use Rattle·passes·specs.specs.declared.Passes.{Passes}
-use Rattle·passes·specs.specs.declared.Judged.{Judged}
+use Rattle.std.specs.Prelude.{ℕ, ◌+◌, ◌*◌, ◌<◌, ◌≤◌, ◌≡◌, false, List, map, length, get_or}
+use Rattle.std.proofs.Math.Seq.{paste}
+use Rattle.laws.specs.Lists.{any, count, only, flat, Every}
+use Rattle.records.specs.Record.{pass, job_bytes}
+use Rattle.records.specs.Table.{encode}
+use Rattle.records.specs.declared.Pass.{Pass}
+use Rattle.records.specs.declared.PassRecord.{PassRecord}
+use Rattle.records.specs.declared.JobRecord.{JobRecord}
+use Rattle.passes.specs.Judge.{is_pass}
+use Rattle.passes.specs.Expand.{of_pass, passes_in_order, cycle_of, job_count}
+use Rattle.passes.specs.Call.{pass_table, passes_number}
+use Rattle.passes.specs.declared.Passes.{Passes}
+use Rattle.passes.specs.declared.Judged.{Judged}
 
 -- the passes by number: 0 where there is none
-unfoldable pub passesOf : List PassRecord → Passes
-passesOf table = record {
-  present = map (λ n. any (isPass n) table) (count 0 24);
-  cost = map (ofPass (λ p. p .cost) table) (count 0 24);
-  period = map (ofPass (λ p. p .period) table) (count 0 24);
-  phase = map (ofPass (λ p. p .phase) table) (count 0 24);
-  within = map (ofPass (λ p. p .within) table) (count 0 24);
+unfoldable pub passes_of : List PassRecord → Passes
+passes_of table = record {
+  present = map (λ n. any (is_pass n) table) (count 0 24);
+  cost = map (of_pass (λ p. p.cost) table) (count 0 24);
+  period = map (of_pass (λ p. p.period) table) (count 0 24);
+  phase = map (of_pass (λ p. p.phase) table) (count 0 24);
+  within = map (of_pass (λ p. p.within) table) (count 0 24);
 }
 
 -- the pass with a number
-unfoldable pub passIn : Passes → ℕ → Pass
-passIn passes n =
-    pass n (getD (passes .cost) n 0) (getD (passes .period) n 0) (getD (passes .phase) n 0) (getD (passes .within) n 0)
+unfoldable pub pass_in : Passes → ℕ → Pass
+pass_in passes n =
+    pass n (get_or passes.cost n 0) (get_or passes.period n 0) (get_or passes.phase n 0) (get_or passes.within n 0)
 
 -- the pass with a number, if there is one
-unfoldable pub passesAt : Passes → ℕ → List Pass
-passesAt passes n = only (getD (passes .present) n false) (passIn passes n)
+unfoldable pub passes_at : Passes → ℕ → List Pass
+passes_at passes n = only (get_or passes.present n false) (pass_in passes n)
 
 -- the passes by rising number
-unfoldable pub inOrder : Passes → List Pass
-inOrder passes = flat (passesAt passes) (count 0 24)
+unfoldable pub in_order : Passes → List Pass
+in_order passes = flat (passes_at passes) (count 0 24)
 
 -- what judging a table's bytes answers: the lowest of 1 to 6 that holds, or 0 and then its passes, its cycle and how many jobs it has
 pub record JudgedAs (bytes : List ℕ) (answer : Judged) : Type 0 where
-  pub number : answer .number ≡ passesNumber bytes 0
-  pub passes : answer .number ≡ 0 → answer .passes ≡ passesOf (passTable bytes)
-  pub cycle : answer .number ≡ 0 → answer .cycle ≡ cycleOf (passTable bytes)
-  pub jobs : answer .number ≡ 0 → answer .jobs ≡ jobCount (cycleOf (passTable bytes)) (passesInOrder (passTable bytes))
+  pub number : answer.number ≡ passes_number bytes 0
+  pub passes : answer.number ≡ 0 → answer.passes ≡ passes_of (pass_table bytes)
+  pub cycle : answer.number ≡ 0 → answer.cycle ≡ cycle_of (pass_table bytes)
+  pub jobs : answer.number ≡ 0 → answer.jobs ≡ job_count (cycle_of (pass_table bytes)) (passes_in_order (pass_table bytes))
 
 -- passes and a cycle are those of a table that none of 1 to 6 refuses
 pub record Accepted (bytes : List ℕ) (held : Passes) (ticks : ℕ) : Type 0 where
-  pub number : passesNumber bytes 0 ≡ 0
-  pub passes : held ≡ passesOf (passTable bytes)
-  pub cycle : ticks ≡ cycleOf (passTable bytes)
+  pub number : passes_number bytes 0 ≡ 0
+  pub passes : held ≡ passes_of (pass_table bytes)
+  pub cycle : ticks ≡ cycle_of (pass_table bytes)
 
 -- a pass with a period, which its window lies within
 abbrev pub Timely : Pass → Type 0
-Timely p = (0 < p .period) × (p .phase + p .within ≤ p .period)
+Timely p = (0 < p.period) × (p.phase + p.within ≤ p.period)
 
 -- all passes are such
 unfoldable pub AllTimely : Passes → Type 0
-AllTimely passes = Every Timely (inOrder passes)
+AllTimely passes = Every Timely (in_order passes)
 
 -- an output with these records from a place on
-abbrev pub writtenAt : List ℕ → ℕ → List JobRecord → List ℕ
-writtenAt out place rs = paste out (12 * place) (encode jobBytes rs) (12 * length rs)
+abbrev pub written_at : List ℕ → ℕ → List JobRecord → List ℕ
+written_at out place rs = paste out (12 * place) (encode job_bytes rs) (12 * length rs)

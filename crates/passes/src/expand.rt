@@ -1,31 +1,23 @@
 // Expanding an accepted pass table: its jobs, and the links of its flows.
+ghost use Rattle.std.specs.Prelude.{◌≡◌, map, true, ℕ, ◌+◌, ◌-◌, ◌*◌, ◌<◌, ◌≤◌, length, get_or};
+ghost use Rattle.laws.specs.Lists.{count, flat};
+ghost use Rattle.records.specs.Record.{job_bytes};
+ghost use Rattle.records.specs.Table.{encode};
+ghost use Rattle.records.specs.Outcome.{overwrite};
+ghost use Rattle.records.specs.declared.JobRecord.TheVariants.{J, L};
+ghost use Rattle.passes.specs.Expand.{instance_of, jobs_from, job_count, first_job, flow_links, flows_of};
+ghost use Rattle.passes.specs.Call.{pass_table};
+ghost use Rattle.passes.specs.Arrays.{pass_in, passes_at, in_order, AllTimely, Accepted, written_at};
+ghost use Rattle.passes.specs.Ends.{ends_of, matches, matched, matched_links, record_links, EndsFit, FlowFits};
+
 use crate::Passes;
 use crate::cycle::instances_of;
-use records::Flow;
-use records::Job;
-use records::Link;
-use records::Pass;
-use records::PassRead;
-use records::PassRecord;
 use records::read::read_pass;
-use records::write::write_job;
-use records::write::write_link;
-ghost use mathlib.Core.Path.{_≡_};
-ghost use mathlib.Core.List.{map};
-ghost use mathlib.Core.Bool.{true};
-ghost use Prim.Native.Nat.{ℕ, _+_, _-_, _*_, _<_, _≤_};
-ghost use lib.ListN.{length, getD};
-ghost use Rattle·laws.specs.Lists.{count, flat};
-ghost use Rattle·records.specs.Record.{jobBytes};
-ghost use Rattle·records.specs.Table.{encode};
-ghost use Rattle·records.specs.Outcome.{overwrite};
-ghost use Rattle·records.specs.declared.JobRecord.the-variants.{J, L};
-ghost use Rattle·passes·specs.specs.Expand.{instanceOf, jobsFrom, jobCount, firstJob, flowLinks, flowsOf};
-ghost use Rattle·passes·specs.specs.Call.{passTable};
-ghost use Rattle·passes·specs.specs.Arrays.{passIn, passesAt, inOrder, AllTimely, Accepted, writtenAt};
-ghost use Rattle·passes·specs.specs.Ends.{endsOf, matches, matched, matchedLinks, recordLinks, EndsFit, FlowFits};
+use records::write::{write_job, write_link};
+use records::{Flow, Job, Link, Pass, PassRead, PassRecord};
 
 // What the links of a flow are made of: its source's and its target's first job and period, and how many instances the source has.
+#[derive(Clone, Copy)]
 pub struct Ends {
     pub from: usize,
     pub to: usize,
@@ -36,8 +28,8 @@ pub struct Ends {
 
 // The pass with a number.
 fn pass_of(passes: Passes, number: usize) -> Pass
-    requires { ⌜ number < 24 ⌝ }
-    ensures { λ r. ⌜ r ≡ passIn passes number ⌝ }
+    requires { number < 24 }
+    ensures { result ≡ pass_in passes number }
 {
     Pass {
         number: number as u8,
@@ -50,8 +42,8 @@ fn pass_of(passes: Passes, number: usize) -> Pass
 
 // The job of instance k of a pass, whose first job is numbered `first`.
 fn instance_of(pass: Pass, first: usize, k: usize) -> Job
-    requires { ⌜ (1 ≤ k) × (first + k ≤ 48) × (k * pass .period ≤ 48000) × (pass .phase + pass .within ≤ pass .period) ⌝ }
-    ensures { λ r. ⌜ r ≡ instanceOf pass first k ⌝ }
+    requires { (1 ≤ k) × (first + k ≤ 48) × (k * pass.period ≤ 48000) × (pass.phase + pass.within ≤ pass.period) }
+    ensures { result ≡ instance_of pass first k }
 {
     let before = k - 1;
     let release = before * (pass.period as usize) + pass.phase as usize;
@@ -65,8 +57,8 @@ fn instance_of(pass: Pass, first: usize, k: usize) -> Job
 
 // The jobs of the first `times` instances of a pass, each at the place of its number.
 fn write_instances(out: &mut [u8], first: usize, pass: Pass, times: usize)
-    requires { ⌜ (12 * (first + times) ≤ length (now out)) × (first + times ≤ 48) × (times * pass .period ≤ 48000) × (pass .phase + pass .within ≤ pass .period) ⌝ }
-    ensures { λ _. ⌜ now (out .exit) ≡ writtenAt (now (out .entry)) first (map J (map (instanceOf pass first) (count 1 times))) ⌝ }
+    requires { (12 * (first + times) ≤ length out.old) × (first + times ≤ 48) × (times * pass.period ≤ 48000) × (pass.phase + pass.within ≤ pass.period) }
+    ensures { out.new ≡ written_at out.old first (map J (map (instance_of pass first) (count 1 times))) }
 {
     let mut k: usize = 1;
     while k <= times {
@@ -77,10 +69,10 @@ fn write_instances(out: &mut [u8], first: usize, pass: Pass, times: usize)
 
 // The jobs of the pass with a number, if there is one, from the number `first` on: the number of the next job.
 fn write_pass(out: &mut [u8], first: usize, passes: Passes, cycle: u32, number: usize) -> usize
-    requires { ⌜ (number < 24) × (cycle ≤ 48000) × AllTimely passes ⌝ }
-    requires { ⌜ (first + jobCount cycle (passesAt passes number) ≤ 48) × (12 * (first + jobCount cycle (passesAt passes number)) ≤ length (now out)) ⌝ }
-    ensures { λ r. ⌜ r ≡ first + jobCount cycle (passesAt passes number) ⌝ }
-    ensures { λ _. ⌜ now (out .exit) ≡ writtenAt (now (out .entry)) first (map J (jobsFrom cycle first (passesAt passes number))) ⌝ }
+    requires number_bound { (number < 24) × (cycle ≤ 48000) × AllTimely passes }
+    requires number_bound_2 { (first + job_count cycle (passes_at passes number) ≤ 48) × (12 * (first + job_count cycle (passes_at passes number)) ≤ length out.old) }
+    ensures value { result ≡ first + job_count cycle (passes_at passes number) }
+    ensures out_after { out.new ≡ written_at out.old first (map J (jobs_from cycle first (passes_at passes number))) }
 {
     if !passes.present[number] {
         return first;
@@ -92,9 +84,9 @@ fn write_pass(out: &mut [u8], first: usize, passes: Passes, cycle: u32, number: 
 
 // The jobs of all passes.
 pub fn write_jobs(out: &mut [u8], passes: Passes, cycle: u32)
-    requires { ⌜ (cycle ≤ 48000) × (jobCount cycle (inOrder passes) ≤ 48) × AllTimely passes ⌝ }
-    requires { ⌜ 12 * jobCount cycle (inOrder passes) ≤ length (now out) ⌝ }
-    ensures { λ _. ⌜ now (out .exit) ≡ overwrite (encode jobBytes (map J (jobsFrom cycle 0 (inOrder passes)))) (now (out .entry)) ⌝ }
+    requires cycle_bound { (cycle ≤ 48000) × (job_count cycle (in_order passes) ≤ 48) × AllTimely passes }
+    requires passes_in_bounds { 12 * job_count cycle (in_order passes) ≤ length out.old }
+    ensures { out.new ≡ overwrite (encode job_bytes (map J (jobs_from cycle 0 (in_order passes)))) out.old }
 {
     let mut first: usize = 0;
     let mut number: usize = 0;
@@ -106,8 +98,8 @@ pub fn write_jobs(out: &mut [u8], passes: Passes, cycle: u32)
 
 // The number of the first job of the pass with a number: as many jobs stand before it as the passes of lower number have.
 fn first_job(passes: Passes, cycle: u32, number: usize) -> usize
-    requires { ⌜ (number ≤ 24) × (cycle ≤ 48000) × AllTimely passes ⌝ }
-    ensures { λ r. ⌜ r ≡ firstJob cycle (inOrder passes) number ⌝ }
+    requires { (number ≤ 24) × (cycle ≤ 48000) × AllTimely passes }
+    ensures { result ≡ first_job cycle (in_order passes) number }
 {
     let mut first: usize = 0;
     let mut lower: usize = 0;
@@ -120,8 +112,8 @@ fn first_job(passes: Passes, cycle: u32, number: usize) -> usize
 
 // What the links of a flow are made of.
 fn ends_of(passes: Passes, cycle: u32, flow: Flow) -> Ends
-    requires { ⌜ (flow .source < 24) × (flow .target < 24) × (cycle ≤ 48000) × AllTimely passes ⌝ }
-    ensures { λ r. ⌜ r ≡ endsOf passes cycle flow ⌝ }
+    requires { (flow.source < 24) × (flow.target < 24) × (cycle ≤ 48000) × AllTimely passes }
+    ensures { result ≡ ends_of passes cycle flow }
 {
     let source = flow.source as usize;
     let target = flow.target as usize;
@@ -136,17 +128,17 @@ fn ends_of(passes: Passes, cycle: u32, flow: Flow) -> Ends
 
 // The period of instance i of the source starts with a period of the target.
 fn is_matched(ends: Ends, i: usize) -> bool
-    requires { ⌜ (1 ≤ i) × (i ≤ ends .instances) × EndsFit ends ⌝ }
-    ensures { λ r. ⌜ r ≡ matches ends i ⌝ }
+    requires { (1 ≤ i) × (i ≤ ends.instances) × EndsFit ends }
+    ensures { result ≡ matches ends i }
 {
     (i - 1) * ends.source % ends.target == 0
 }
 
 // How many links a flow has.
 fn count_matched(ends: Ends) -> usize
-    requires { ⌜ EndsFit ends ⌝ }
-    ensures { λ r. ⌜ r ≤ 48 ⌝ }
-    ensures { λ r. ⌜ ((latency : ℕ) → r ≡ length (matchedLinks ends latency)) ⌝ }
+    requires { EndsFit ends }
+    ensures upper_bound { result ≤ 48 }
+    ensures by_index { (latency : ℕ) → result ≡ length (matched_links ends latency) }
 {
     let mut links: usize = 0;
     let mut i: usize = 1;
@@ -161,8 +153,8 @@ fn count_matched(ends: Ends) -> usize
 
 // How many links the flow of a record has.
 fn count_record(passes: Passes, cycle: u32, r: PassRecord) -> usize
-    requires { ⌜ (cycle ≤ 48000) × AllTimely passes × FlowFits passes cycle r ⌝ }
-    ensures { λ n. ⌜ (n ≡ length (recordLinks passes cycle r)) × (n ≤ 48) ⌝ }
+    requires { (cycle ≤ 48000) × AllTimely passes × FlowFits passes cycle r }
+    ensures { (result ≡ length (record_links passes cycle r)) × (result ≤ 48) }
 {
     match r {
         PassRecord::P(_) => 0,
@@ -172,8 +164,8 @@ fn count_record(passes: Passes, cycle: u32, r: PassRecord) -> usize
 
 // How many links the flows of a table have.
 pub fn count_links(s: &[u8], passes: Passes, cycle: u32) -> usize
-    requires { ⌜ Accepted (now s) passes cycle ⌝ }
-    ensures { λ r. ⌜ r ≡ length (flat (flowLinks (passTable (now (s .entry))) cycle) (flowsOf (passTable (now (s .entry))))) ⌝ }
+    requires { Accepted s.now passes cycle }
+    ensures { result ≡ length (flat (flow_links (pass_table s.now) cycle) (flows_of (pass_table s.now))) }
 {
     let n = s.len() / 12;
     let mut links: usize = 0;
@@ -190,10 +182,10 @@ pub fn count_links(s: &[u8], passes: Passes, cycle: u32) -> usize
 
 // The link of instance i of the source at a place, if it has one: the next place.
 fn write_matched(out: &mut [u8], place: usize, ends: Ends, latency: u16, i: usize) -> usize
-    requires { ⌜ (1 ≤ i) × (i ≤ ends .instances) × EndsFit ends ⌝ }
-    requires { ⌜ 12 * (place + length (matched ends latency i)) ≤ length (now out) ⌝ }
-    ensures { λ r. ⌜ r ≡ place + length (matched ends latency i) ⌝ }
-    ensures { λ _. ⌜ now (out .exit) ≡ writtenAt (now (out .entry)) place (map L (matched ends latency i)) ⌝ }
+    requires le_i { (1 ≤ i) × (i ≤ ends.instances) × EndsFit ends }
+    requires i_in_bounds { 12 * (place + length (matched ends latency i)) ≤ length out.old }
+    ensures value { result ≡ place + length (matched ends latency i) }
+    ensures out_after { out.new ≡ written_at out.old place (map L (matched ends latency i)) }
 {
     if !is_matched(ends, i) {
         return place;
@@ -213,9 +205,9 @@ fn write_matched(out: &mut [u8], place: usize, ends: Ends, latency: u16, i: usiz
 
 // The links of a flow from a place on: the next place.
 fn write_flow(out: &mut [u8], place: usize, ends: Ends, latency: u16) -> usize
-    requires { ⌜ EndsFit ends × (12 * (place + length (matchedLinks ends latency)) ≤ length (now out)) ⌝ }
-    ensures { λ r. ⌜ r ≡ place + length (matchedLinks ends latency) ⌝ }
-    ensures { λ _. ⌜ now (out .exit) ≡ writtenAt (now (out .entry)) place (map L (matchedLinks ends latency)) ⌝ }
+    requires { EndsFit ends × (12 * (place + length (matched_links ends latency)) ≤ length out.old) }
+    ensures value { result ≡ place + length (matched_links ends latency) }
+    ensures out_after { out.new ≡ written_at out.old place (map L (matched_links ends latency)) }
 {
     let mut next = place;
     let mut i: usize = 1;
@@ -228,10 +220,10 @@ fn write_flow(out: &mut [u8], place: usize, ends: Ends, latency: u16) -> usize
 
 // The links of a record's flow from a place on: the next place.
 fn write_record(out: &mut [u8], place: usize, passes: Passes, cycle: u32, r: PassRecord) -> usize
-    requires { ⌜ (cycle ≤ 48000) × AllTimely passes × FlowFits passes cycle r ⌝ }
-    requires { ⌜ 12 * (place + length (recordLinks passes cycle r)) ≤ length (now out) ⌝ }
-    ensures { λ n. ⌜ n ≡ place + length (recordLinks passes cycle r) ⌝ }
-    ensures { λ _. ⌜ now (out .exit) ≡ writtenAt (now (out .entry)) place (map L (recordLinks passes cycle r)) ⌝ }
+    requires cycle_bound { (cycle ≤ 48000) × AllTimely passes × FlowFits passes cycle r }
+    requires r_in_bounds { 12 * (place + length (record_links passes cycle r)) ≤ length out.old }
+    ensures value { result ≡ place + length (record_links passes cycle r) }
+    ensures out_after { out.new ≡ written_at out.old place (map L (record_links passes cycle r)) }
 {
     match r {
         PassRecord::P(_) => place,
@@ -241,9 +233,9 @@ fn write_record(out: &mut [u8], place: usize, passes: Passes, cycle: u32, r: Pas
 
 // The links of all flows of a table, flow by flow as they stand in it.
 pub fn write_links(out: &mut [u8], s: &[u8], passes: Passes, cycle: u32)
-    requires { ⌜ Accepted (now s) passes cycle ⌝ }
-    requires { ⌜ 12 * length (flat (flowLinks (passTable (now s)) cycle) (flowsOf (passTable (now s)))) ≤ length (now out) ⌝ }
-    ensures { λ _. ⌜ now (out .exit) ≡ overwrite (encode jobBytes (map L (flat (flowLinks (passTable (now (s .entry))) cycle) (flowsOf (passTable (now (s .entry))))))) (now (out .entry)) ⌝ }
+    requires accepted { Accepted s.now passes cycle }
+    requires s_in_bounds { 12 * length (flat (flow_links (pass_table s.now) cycle) (flows_of (pass_table s.now))) ≤ length out.old }
+    ensures { out.new ≡ overwrite (encode job_bytes (map L (flat (flow_links (pass_table s.now) cycle) (flows_of (pass_table s.now))))) out.old }
 {
     let n = s.len() / 12;
     let mut place: usize = 0;

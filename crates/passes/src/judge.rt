@@ -1,36 +1,26 @@
 // Judging a pass table: the lowest of 1 to 6 that holds, and its passes, its cycle and how many jobs it has where none does.
-use crate::Judged;
-use crate::Passes;
-use crate::cycle::cycle_of;
-use crate::cycle::job_count;
-use crate::load::is_present;
-use crate::load::load_passes;
-use crate::load::no_passes;
-use records::Flow;
-use records::Pass;
-use records::PassRead;
-use records::PassRecord;
+ghost use Rattle.std.specs.Prelude.{◌≡◌, List, [], ◌∷◌, ◌*◌, ◌≤◌, length};
+ghost use Rattle.std.proofs.Math.Option.{none};
+ghost use Rattle.records.specs.declared.PassRecord.{PassRecord};
+ghost use Rattle.records.specs.declared.PassRecord.TheVariants.{P, F};
+ghost use Rattle.records.specs.Record.{in_passes};
+ghost use Rattle.records.specs.Table.{read_all, unreadable, as_found};
+ghost use Rattle.passes.specs.Judge.{bad_value, loose_flow, fault3, fault4, fault5};
+ghost use Rattle.passes.specs.Expand.{flows_of};
+ghost use Rattle.passes.specs.Call.{pass_table};
+ghost use Rattle.passes.specs.Arrays.{passes_of, JudgedAs};
+
+use crate::cycle::{cycle_of, job_count};
+use crate::load::{is_present, load_passes, no_passes};
+use crate::{Judged, Passes};
 use records::read::read_pass;
-use records::table::Found;
-use records::table::bad_length;
-ghost use mathlib.Core.Path.{_≡_};
-ghost use mathlib.Core.List.{List, [], _∷_};
-ghost use mathlib.Core.Option.{none};
-ghost use Prim.Native.Nat.{_*_, _≤_};
-ghost use lib.ListN.{length};
-ghost use Rattle·records.specs.declared.PassRecord.{PassRecord};
-ghost use Rattle·records.specs.declared.PassRecord.the-variants.{P, F};
-ghost use Rattle·records.specs.Record.{inPasses};
-ghost use Rattle·records.specs.Table.{readAll, unreadable, asFound};
-ghost use Rattle·passes·specs.specs.Judge.{badValue, looseFlow, fault3, fault4, fault5};
-ghost use Rattle·passes·specs.specs.Expand.{flowsOf};
-ghost use Rattle·passes·specs.specs.Call.{passTable};
-ghost use Rattle·passes·specs.specs.Arrays.{passesOf, JudgedAs};
+use records::table::{Found, bad_length};
+use records::{Flow, Pass, PassRead, PassRecord};
 
 // 2: the first record that cannot be read.
 fn first_unreadable(s: &[u8], n: usize) -> Found
-    requires { ⌜ length (now s) ≡ 12 * n ⌝ }
-    ensures { λ r. ⌜ r ≡ asFound (unreadable (readAll inPasses (now (s .entry)))) ⌝ }
+    requires { length s.now ≡ 12 * n }
+    ensures { result ≡ as_found (unreadable (read_all in_passes s.now)) }
 {
     let mut i: usize = 0;
     while i < n {
@@ -44,7 +34,7 @@ fn first_unreadable(s: &[u8], n: usize) -> Found
 
 // 4: a pass of cost 0 or period 0, or whose phase and finish within are over its period.
 fn bad_pass(p: Pass) -> bool
-    ensures { λ b. ⌜ b ≡ badValue (P p) ⌝ }
+    ensures { result ≡ bad_value (P p) }
 {
     if p.cost == 0 {
         return true;
@@ -57,7 +47,7 @@ fn bad_pass(p: Pass) -> bool
 
 // 4: such a pass, or a flow with a latency over 48,000.
 fn bad_value(r: PassRecord) -> bool
-    ensures { λ b. ⌜ b ≡ badValue r ⌝ }
+    ensures { result ≡ bad_value r }
 {
     match r {
         PassRecord::P(p) => bad_pass(p),
@@ -67,8 +57,8 @@ fn bad_value(r: PassRecord) -> bool
 
 // 4: the first such record.
 fn first_bad_value(s: &[u8], n: usize) -> Found
-    requires { ⌜ (length (now s) ≡ 12 * n) × (unreadable (readAll inPasses (now s)) ≡ none) ⌝ }
-    ensures { λ r. ⌜ r ≡ asFound (fault4 (passTable (now (s .entry)))) ⌝ }
+    requires { (length s.now ≡ 12 * n) × (unreadable (read_all in_passes s.now) ≡ none) }
+    ensures { result ≡ as_found (fault4 (pass_table s.now)) }
 {
     let mut i: usize = 0;
     while i < n {
@@ -85,7 +75,7 @@ fn first_bad_value(s: &[u8], n: usize) -> Found
 
 // 5: a flow that names itself, or a pass not in the table.
 fn loose_ends(present: &[bool; 24], f: Flow) -> bool
-    ensures { λ b. ⌜ ((table : List PassRecord) → fault3 table ≡ none → now (present .entry) ≡ passesOf table .present → b ≡ looseFlow table (F f)) ⌝ }
+    ensures { (table : List PassRecord) → fault3 table ≡ none → present.now ≡ (passes_of table).present → result ≡ loose_flow table (F f) }
 {
     if f.source == f.target {
         return true;
@@ -98,7 +88,7 @@ fn loose_ends(present: &[bool; 24], f: Flow) -> bool
 
 // 5: the record is such a flow.
 fn loose_flow(present: &[bool; 24], r: PassRecord) -> bool
-    ensures { λ b. ⌜ ((table : List PassRecord) → fault3 table ≡ none → now (present .entry) ≡ passesOf table .present → b ≡ looseFlow table r) ⌝ }
+    ensures { (table : List PassRecord) → fault3 table ≡ none → present.now ≡ (passes_of table).present → result ≡ loose_flow table r }
 {
     match r {
         PassRecord::P(_) => false,
@@ -108,9 +98,9 @@ fn loose_flow(present: &[bool; 24], r: PassRecord) -> bool
 
 // 5: the first such record.
 fn first_loose(s: &[u8], n: usize, passes: Passes) -> Found
-    requires { ⌜ (length (now s) ≡ 12 * n) × (unreadable (readAll inPasses (now s)) ≡ none) ⌝ }
-    requires { ⌜ (fault3 (passTable (now s)) ≡ none) × (passes ≡ passesOf (passTable (now s))) ⌝ }
-    ensures { λ r. ⌜ r ≡ asFound (fault5 (passTable (now (s .entry)))) ⌝ }
+    requires s_len { (length s.now ≡ 12 * n) × (unreadable (read_all in_passes s.now) ≡ none) }
+    requires s_value { (fault3 (pass_table s.now) ≡ none) × (passes ≡ passes_of (pass_table s.now)) }
+    ensures { result ≡ as_found (fault5 (pass_table s.now)) }
 {
     let mut i: usize = 0;
     while i < n {
@@ -127,7 +117,7 @@ fn first_loose(s: &[u8], n: usize, passes: Passes) -> Found
 
 // How many F records a record is.
 fn one_flow(r: PassRecord) -> usize
-    ensures { λ n. ⌜ (n ≡ length (flowsOf (r ∷ []))) × (n ≤ 1) ⌝ }
+    ensures { (result ≡ length (flows_of (r ∷ []))) × (result ≤ 1) }
 {
     match r {
         PassRecord::P(_) => 0,
@@ -137,8 +127,8 @@ fn one_flow(r: PassRecord) -> usize
 
 // How many F records there are, repeats counted.
 fn count_flows(s: &[u8], n: usize) -> usize
-    requires { ⌜ (length (now s) ≡ 12 * n) × (unreadable (readAll inPasses (now s)) ≡ none) ⌝ }
-    ensures { λ r. ⌜ r ≡ length (flowsOf (passTable (now (s .entry)))) ⌝ }
+    requires { (length s.now ≡ 12 * n) × (unreadable (read_all in_passes s.now) ≡ none) }
+    ensures { result ≡ length (flows_of (pass_table s.now)) }
 {
     let mut flows: usize = 0;
     let mut i: usize = 0;
@@ -154,7 +144,7 @@ fn count_flows(s: &[u8], n: usize) -> usize
 
 // Refused: the number, and nothing else.
 fn refused(number: u32) -> Judged
-    ensures { λ r. ⌜ r .number ≡ number ⌝ }
+    ensures { result.number ≡ number }
 {
     Judged {
         number,
@@ -166,7 +156,7 @@ fn refused(number: u32) -> Judged
 
 // The lowest of 1 to 6 that holds, or 0 and the table's passes, its cycle and how many jobs it has.
 pub fn judge(s: &[u8]) -> Judged
-    ensures { λ r. ⌜ JudgedAs (now (s .entry)) r ⌝ }
+    ensures { JudgedAs s.now result }
 {
     if bad_length(s) {
         return refused(1);

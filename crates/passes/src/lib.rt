@@ -1,11 +1,14 @@
 // A pass table: read and judged, its passes in arrays by number, its cycle, and the jobs and links that it expands to.
 
+#![tactic(auto)]
+
 pub mod cycle;
 pub mod expand;
 pub mod judge;
 pub mod load;
 
 // The passes of a table by number: whether there is one, and what its record says.
+#[derive(Clone, Copy)]
 pub struct Passes {
     pub present: [bool; 24],
     pub cost: [u16; 24],
@@ -15,6 +18,7 @@ pub struct Passes {
 }
 
 // What judging a table answers: the lowest of 1 to 6 that holds, or 0, and then its passes, its cycle and how many jobs it has.
+#[derive(Clone, Copy)]
 pub struct Judged {
     pub number: u32,
     pub passes: Passes,

@@ -1,25 +1,21 @@
 // The passes of a table in arrays by number.
+ghost use Rattle.std.specs.Prelude.{◌≡◌, List, [], ◌∷◌, false, ◌*◌, ◌<◌, length, get_or};
+ghost use Rattle.std.proofs.Math.Option.{none};
+ghost use Rattle.records.specs.declared.PassRecord.{PassRecord};
+ghost use Rattle.records.specs.declared.PassRecord.TheVariants.{P, F};
+ghost use Rattle.records.specs.Record.{in_passes};
+ghost use Rattle.records.specs.Table.{read_all, unreadable, as_found};
+ghost use Rattle.passes.specs.Judge.{bad_number, fault3};
+ghost use Rattle.passes.specs.Call.{pass_table};
+ghost use Rattle.passes.specs.Arrays.{passes_of};
+
 use crate::Passes;
-use records::Pass;
-use records::PassRead;
-use records::PassRecord;
 use records::read::read_pass;
 use records::table::Found;
-ghost use mathlib.Core.Path.{_≡_};
-ghost use mathlib.Core.List.{List, [], _∷_};
-ghost use mathlib.Core.Option.{none};
-ghost use mathlib.Core.Bool.{false};
-ghost use Prim.Native.Nat.{_*_, _<_};
-ghost use lib.ListN.{length, getD};
-ghost use Rattle·records.specs.declared.PassRecord.{PassRecord};
-ghost use Rattle·records.specs.declared.PassRecord.the-variants.{P, F};
-ghost use Rattle·records.specs.Record.{inPasses};
-ghost use Rattle·records.specs.Table.{readAll, unreadable, asFound};
-ghost use Rattle·passes·specs.specs.Judge.{badNumber, fault3};
-ghost use Rattle·passes·specs.specs.Call.{passTable};
-ghost use Rattle·passes·specs.specs.Arrays.{passesOf};
+use records::{Pass, PassRead, PassRecord};
 
 // What loading the passes answers: the first record at fault by 3, if there is one, and the passes of the records before it.
+#[derive(Clone, Copy)]
 pub struct Loaded {
     pub fault: Found,
     pub passes: Passes,
@@ -27,7 +23,7 @@ pub struct Loaded {
 
 // No passes.
 pub(crate) fn no_passes() -> Passes
-    ensures { λ r. ⌜ r ≡ passesOf [] ⌝ }
+    ensures { result ≡ passes_of [] }
 {
     Passes {
         present: [false; 24],
@@ -40,7 +36,7 @@ pub(crate) fn no_passes() -> Passes
 
 // There is a pass with this number.
 pub(crate) fn is_present(present: &[bool; 24], number: u8) -> bool
-    ensures { λ b. ⌜ ((table : List PassRecord) → now (present .entry) ≡ passesOf table .present → b ≡ getD (passesOf table .present) number false) ⌝ }
+    ensures { (table : List PassRecord) → present.now ≡ (passes_of table).present → result ≡ get_or (passes_of table).present number false }
 {
     let k = number as usize;
     if k < 24 {
@@ -51,7 +47,7 @@ pub(crate) fn is_present(present: &[bool; 24], number: u8) -> bool
 
 // 3: the number of a pass is over 23, or that of a pass before it.
 fn bad_number(present: &[bool; 24], r: PassRecord) -> bool
-    ensures { λ b. ⌜ ((before : List PassRecord) → now (present .entry) ≡ passesOf before .present → b ≡ badNumber before r) ⌝ }
+    ensures { (before : List PassRecord) → present.now ≡ (passes_of before).present → result ≡ bad_number before r }
 {
     match r {
         PassRecord::P(p) => {
@@ -67,8 +63,8 @@ fn bad_number(present: &[bool; 24], r: PassRecord) -> bool
 
 // The passes with one more.
 fn with_pass(passes: Passes, p: Pass) -> Passes
-    requires { ⌜ p .number < 24 ⌝ }
-    ensures { λ r. ⌜ ((before : List PassRecord) → passes ≡ passesOf before → r ≡ passesOf (P p ∷ before)) ⌝ }
+    requires { p.number < 24 }
+    ensures { (before : List PassRecord) → passes ≡ passes_of before → result ≡ passes_of (P p ∷ before) }
 {
     let k = p.number as usize;
     let mut t = passes;
@@ -82,9 +78,9 @@ fn with_pass(passes: Passes, p: Pass) -> Passes
 
 // The passes of all records, or the first at fault by 3.
 pub(crate) fn load_passes(s: &[u8], n: usize) -> Loaded
-    requires { ⌜ (length (now s) ≡ 12 * n) × (unreadable (readAll inPasses (now s)) ≡ none) ⌝ }
-    ensures { λ r. ⌜ r .fault ≡ asFound (fault3 (passTable (now (s .entry)))) ⌝ }
-    ensures { λ r. ⌜ (fault3 (passTable (now (s .entry))) ≡ none → r .passes ≡ passesOf (passTable (now (s .entry)))) ⌝ }
+    requires { (length s.now ≡ 12 * n) × (unreadable (read_all in_passes s.now) ≡ none) }
+    ensures fault_value { result.fault ≡ as_found (fault3 (pass_table s.now)) }
+    ensures passes_value { fault3 (pass_table s.now) ≡ none → result.passes ≡ passes_of (pass_table s.now) }
 {
     let mut passes = no_passes();
     let mut i: usize = 0;

@@ -1,22 +1,35 @@
 // The print program: reads a job table from standard input and prints its schedule, or why there is none.
+#![tactic(auto)]
+
+ghost use Rattle.std.specs.Prelude.{◌<◌, ◌≤◌, length};
+
 use argilosco::schedule::argilosco_schedule;
-use libc::STDIN_FILENO;
-use libc::STDOUT_FILENO;
-ghost use Prim.Native.Nat.{_<_};
+use std::io;
+use std::io::Read;
 
 // The budget that 01 gives the program.
 const BUDGET: u32 = 100000;
 
-// Writes a number in decimal.
-fn number(n: u32) {
-    io::print_decimal(STDOUT_FILENO, n as u64);
+// The most bytes that are read: any table over 49,152 bytes is refused by 1.
+const MOST: usize = 65536;
+
+// Reads until the table is full, the input ends or a read fails, and answers how many bytes came.
+fn read_table(input: &mut impl Read, table: &mut [u8]) -> usize
+    ensures { result ≤ length table.new }
+{
+    let mut n = 0;
+    while n < table.len() {
+        match input.read(&mut table[n..]) {
+            Ok(0) | Err(_) => break,
+            Ok(more) => n += more,
+        }
+    }
+    n
 }
 
 // Writes the line `opened N`.
-fn opened_line(n: u32) {
-    io::write_all(STDOUT_FILENO, b"opened ");
-    number(n);
-    io::write_all(STDOUT_FILENO, b"\n");
+fn opened_line(rt: &impl Print, n: u32) -> io::Result<()> {
+    println!(rt; "opened {n}")
 }
 
 // The 16-bit number that two bytes hold, the low one first.
@@ -25,41 +38,35 @@ fn word(low: u8, high: u8) -> u32 {
 }
 
 // Writes the line `job start end` of the slot at a place.
-fn slot_line(slots: &[u8; 576], place: usize)
-    requires { ⌜ place < 48 ⌝ }
+fn slot_line(rt: &impl Print, slots: &[u8; 576], place: usize) -> io::Result<()>
+    requires { place < 48 }
 {
     let at = 12 * place;
-    number(word(slots[at + 1], 0));
-    io::write_all(STDOUT_FILENO, b" ");
-    number(word(slots[at + 2], slots[at + 3]));
-    io::write_all(STDOUT_FILENO, b" ");
-    number(word(slots[at + 4], slots[at + 5]));
-    io::write_all(STDOUT_FILENO, b"\n");
+    let job = slots[at + 1];
+    let start = word(slots[at + 2], slots[at + 3]);
+    let end = word(slots[at + 4], slots[at + 5]);
+    println!(rt; "{job} {start} {end}")
 }
 
 // Writes a line for each of the slots that fill so many bytes.
-fn slot_lines(slots: &[u8; 576], written: u32) {
-    let mut place: usize = 0;
-    while place < 48 {
+fn slot_lines(rt: &impl Print, slots: &[u8; 576], written: u32) -> io::Result<()> {
+    for place in 0..48 {
         if 12 * (place as u32) < written {
-            slot_line(slots, place);
+            slot_line(rt, slots, place)?;
         }
-        place += 1;
     }
+    Ok(())
 }
 
-fn main() {
-    let mut table = io::large_buffer();
-    let n = io::read_full(STDIN_FILENO, &mut table);
-    let mut slots = [0u8; 576];
+fn main(rt: HostRuntime) -> io::Result<()> {
+    let mut table = [0; MOST];
+    let n = read_table(&mut rt.stdin(), &mut table);
+    let mut slots = [0; 576];
     let answer = argilosco_schedule(&table[..n], BUDGET, &mut slots);
     if answer.number == 0 {
-        slot_lines(&slots, answer.written);
-        opened_line(answer.openings);
-        return;
+        slot_lines(&rt, &slots, answer.written)?;
+    } else {
+        print!(rt; "refused {} ", answer.number)?;
     }
-    io::write_all(STDOUT_FILENO, b"refused ");
-    number(answer.number);
-    io::write_all(STDOUT_FILENO, b" ");
-    opened_line(answer.openings);
+    opened_line(&rt, answer.openings)
 }

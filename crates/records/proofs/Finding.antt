@@ -1,58 +1,58 @@
 -- What a place that code answers says of the place looked for, and what a row of refusals comes to: for any kind of table.
-use Prim.Native.Nat.{ℕ, suc, _*_, _/_, _%_, _≤_}
+use Prim.Native.Nat.{ℕ, suc, ◌*◌, ◌/◌, ◌%◌, ◌≤◌}
 use native.Mathlib.Omega.{arith}
-use mathlib.Core.Path.{_≡_, refl, sym, ap}
-use mathlib.Core.Bool.{Bool, true, false, not, _||_}
+use mathlib.Core.Path.{◌≡◌, refl, sym, ap}
+use mathlib.Core.Bool.{Bool, true, false, not}
 use mathlib.Core.List.{List, []}
 use mathlib.Core.Option.{Option, none, some}
 use lib.Dec.{eqb, ltb}
 use lib.ListN.{length}
 use borrow.Author.Tests.{eqb-true, ltb-false, not-false}
-use Rattle·laws.specs.Lists.{found, firstFault}
-use Rattle·laws.proofs.Members.{true-not-false, or-false}
-use Rattle·laws.proofs.Walking.{Next, behind, FaultFrom, fault-here, fault-end}
-use Rattle·records·specs.specs.Outcome.{refuse}
-use Rattle·records·specs.specs.Table.{badLength, asFound}
-use Rattle·records·specs.specs.declared.table.Found.the-variants.{At, Nothing}
+use Rattle.laws.specs.Lists.{found, first_fault}
+use Rattle.laws.proofs.Members.{true_not_false, or_false}
+use Rattle.laws.proofs.Walking.{Next, behind, FaultFrom, fault_here, fault_end}
+use Rattle.records.specs.Outcome.{refuse}
+use Rattle.records.specs.Table.{bad_length, as_found}
+use Rattle.records.specs.declared.table.Found.TheVariants.{At, Nothing}
 
 module _ {A : Type 0} (bad : List A → A → Bool) (table : List A) where
   -- the record at fault is found
-  pub fault-found : (i : ℕ) {r : A} → Next table i r → bad (behind i table) r ≡ true → FaultFrom bad table i → At i ≡ asFound (firstFault bad [] 0 table)
-  fault-found i next at-fault from = sym (ap asFound (fault-here bad table i next at-fault from))
+  pub fault_found : (i : ℕ) {r : A} → Next table i r → bad (behind i table) r ≡ true → FaultFrom bad table i → At i ≡ as_found (first_fault bad [] 0 table)
+  fault_found i next at-fault from = sym (ap as_found (fault_here bad table i next at-fault from))
 
   -- at the end nothing is
-  pub fault-nothing : (i : ℕ) → length table ≤ i → FaultFrom bad table i → Nothing ≡ asFound (firstFault bad [] 0 table)
-  fault-nothing i h from = sym (ap asFound (fault-end bad table i h from))
+  pub fault_nothing : (i : ℕ) → length table ≤ i → FaultFrom bad table i → Nothing ≡ as_found (first_fault bad [] 0 table)
+  fault_nothing i h from = sym (ap as_found (fault_end bad table i h from))
 
 -- where a record is found, there is one
-pub found-refutes : (o : Option ℕ) {place : ℕ} → At place ≡ asFound o → o ≡ none → ⊥
-found-refutes none e f = let z : _≡_ {A = ℕ} 0 1 = cc in omega arith
-found-refutes (some place) e f = let z : _≡_ {A = ℕ} 0 1 = cc in omega arith
+pub found_refutes : (o : Option ℕ) {place : ℕ} → At place ≡ as_found o → o ≡ none → ⊥
+found_refutes none e f = let z : ◌≡◌ {A = ℕ} 0 1 = cc in omega arith
+found_refutes (some place) e f = let z : ◌≡◌ {A = ℕ} 0 1 = cc in omega arith
 
 -- where nothing is found, there is nothing
-pub found-false : (o : Option ℕ) → found o ≡ false → o ≡ none
-found-false none e = refl
-found-false (some x) e = absurd (true-not-false refl e)
+pub found_false : (o : Option ℕ) → found o ≡ false → o ≡ none
+found_false none e = refl
+found_false (some x) e = absurd (true_not_false refl e)
 
 -- a refusal that does not come about leaves what comes after it
-pub refuse-zero : (n : ℕ) (t : Bool) {later : ℕ} → refuse (suc n) t later ≡ 0 → (t ≡ false) × (later ≡ 0)
-refuse-zero n true e = absurd (omega arith)
-refuse-zero n false e = (refl, e)
+pub refuse_zero : (n : ℕ) (t : Bool) {later : ℕ} → refuse (suc n) t later ≡ 0 → (t ≡ false) × (later ≡ 0)
+refuse_zero n true e = absurd (omega arith)
+refuse_zero n false e = (refl, e)
 
 -- where a row of refusals comes to 0, another in its last place comes to that one
-pub refuse-rest : (n : ℕ) (t : Bool) {later other w : ℕ} → refuse (suc n) t later ≡ 0 → (later ≡ 0 → other ≡ w) → refuse (suc n) t other ≡ w
-refuse-rest n true e rest = absurd (omega arith)
-refuse-rest n false e rest = rest e
+pub refuse_rest : (n : ℕ) (t : Bool) {later other w : ℕ} → refuse (suc n) t later ≡ 0 → (later ≡ 0 → other ≡ w) → refuse (suc n) t other ≡ w
+refuse_rest n true e rest = absurd (omega arith)
+refuse_rest n false e rest = rest e
 
 -- where it comes to a number from 1 on, what stands in its last place does not matter
-pub refuse-first : (n m : ℕ) (t : Bool) {later other : ℕ} → refuse (suc n) t later ≡ suc m → (later ≡ suc m → other ≡ suc m) → refuse (suc n) t other ≡ suc m
-refuse-first n m true e rest = e
-refuse-first n m false e rest = rest e
+pub refuse_first : (n m : ℕ) (t : Bool) {later other : ℕ} → refuse (suc n) t later ≡ suc m → (later ≡ suc m → other ≡ suc m) → refuse (suc n) t other ≡ suc m
+refuse_first n m true e rest = e
+refuse_first n m false e rest = rest e
 
 -- a length that 1 does not refuse is that of whole records, 4,096 at most
-pub whole-records : (bytes : List ℕ) → badLength bytes ≡ false → (length bytes ≡ 12 * (length bytes / 12)) × (length bytes ≤ 49152)
-unfolding badLength
-whole-records bytes e =
-    let both = or-false (not (eqb (length bytes % 12) 0)) (ltb 49152 (length bytes)) e in
-    let rest : length bytes % 12 ≡ 0 = eqb-true (length bytes % 12) 0 (not-false (eqb (length bytes % 12) 0) (both .0)) in
-    (omega arith, ltb-false 49152 (length bytes) (both .1))
+pub whole_records : (bytes : List ℕ) → bad_length bytes ≡ false → (length bytes ≡ 12 * (length bytes / 12)) × (length bytes ≤ 49152)
+unfolding bad_length
+whole_records bytes e =
+    let both = or_false (not (eqb (length bytes % 12) 0)) (ltb 49152 (length bytes)) e in
+    let rest : length bytes % 12 ≡ 0 = eqb-true (length bytes % 12) 0 (not-false (eqb (length bytes % 12) 0) both.0) in
+    (omega arith, ltb-false 49152 (length bytes) both.1)

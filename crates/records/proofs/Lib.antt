@@ -9,6 +9,3 @@ pub mod Overwriting
 pub mod Reading
 pub mod Finding
 pub mod Computes
-pub mod ReaderContracts
-pub mod TakenApart
-pub mod PassedOn

@@ -1,8 +1,5 @@
 -- What a call comes to: its number, its openings and the bytes of the records that it writes, and what that makes of the output it was lent.
-use Prim.Native.Nat.{ℕ, zero, suc}
-use mathlib.Core.Bool.{Bool, true, false}
-use mathlib.Core.List.{List, [], _++_}
-use lib.ListN.{length, drop}
+use Rattle.std.specs.Prelude.{ℕ, zero, suc, Bool, true, false, List, [], ◌++◌, length, drop}
 
 -- a number where it holds, else what comes after it: in a row of these, numbers rising, "the lowest that holds .. is given, and only when it holds"
 abbrev pub refuse : ℕ → Bool → ℕ → ℕ
@@ -23,9 +20,9 @@ abbrev pub refused : ℕ → ℕ → Outcome
 refused number openings = record { number = number; openings = openings; bytes = [] }
 
 -- what a call comes to that has a number from 1 on, and with 0 what comes after
-abbrev pub unlessRefused : ℕ → Outcome → Outcome
-unlessRefused zero later = later
-unlessRefused (suc n) later = refused (suc n) 0
+abbrev pub unless_refused : ℕ → Outcome → Outcome
+unless_refused zero later = later
+unless_refused (suc n) later = refused (suc n) 0
 
 -- "Done: the first bytes of the output hold the records, the rest is unchanged"; where there are no bytes, all of it is
 abbrev pub overwrite : List ℕ → List ℕ → List ℕ

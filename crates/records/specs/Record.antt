@@ -1,24 +1,20 @@
 -- The five records of 01's table: what reading twelve bytes finds, and the twelve bytes of a record. `b k` is byte k of the record.
-use Prim.Native.Nat.{ℕ, _<_}
-use mathlib.Core.Bool.{Bool, true, false, cond, _&&_}
-use mathlib.Core.List.{List, [], _∷_, _++_}
-use mathlib.Core.Option.{Option, none, some}
-use lib.Dec.{eqb}
-use lib.ListN.{replicate}
-use Rattle·records·specs.specs.Bytes.{word, pair, zeros}
-use Rattle·records·specs.specs.declared.Pass.{Pass}
-use Rattle·records·specs.specs.declared.Flow.{Flow}
-use Rattle·records·specs.specs.declared.Job.{Job}
-use Rattle·records·specs.specs.declared.Link.{Link}
-use Rattle·records·specs.specs.declared.Slot.{Slot}
-use Rattle·records·specs.specs.declared.PassRecord.{PassRecord}
-use Rattle·records·specs.specs.declared.PassRecord.the-variants.{P, F}
-use Rattle·records·specs.specs.declared.JobRecord.{JobRecord}
-use Rattle·records·specs.specs.declared.JobRecord.the-variants.{J, L}
-use Rattle·records·specs.specs.declared.PassRead.{PassRead}
-use Rattle·records·specs.specs.declared.PassRead.the-variants as pass-read
-use Rattle·records·specs.specs.declared.JobRead.{JobRead}
-use Rattle·records·specs.specs.declared.JobRead.the-variants as job-read
+use Rattle.std.specs.Prelude.{ℕ, ◌<◌, Bool, cond, ◌&&◌, List, ◌∷◌, ◌++◌, eqb, replicate}
+use Rattle.std.proofs.Math.Option.{Option, none, some}
+use Rattle.records.specs.Bytes.{word, pair, zeros}
+use Rattle.records.specs.declared.Pass.{Pass}
+use Rattle.records.specs.declared.Flow.{Flow}
+use Rattle.records.specs.declared.Job.{Job}
+use Rattle.records.specs.declared.Link.{Link}
+use Rattle.records.specs.declared.Slot.{Slot}
+use Rattle.records.specs.declared.PassRecord.{PassRecord}
+use Rattle.records.specs.declared.PassRecord.TheVariants.{P, F}
+use Rattle.records.specs.declared.JobRecord.{JobRecord}
+use Rattle.records.specs.declared.JobRecord.TheVariants.{J, L}
+use Rattle.records.specs.declared.PassRead.{PassRead}
+use Rattle.records.specs.declared.PassRead.TheVariants as pass_reading
+use Rattle.records.specs.declared.JobRead.{JobRead}
+use Rattle.records.specs.declared.JobRead.TheVariants as job_reading
 
 -- a pass by its number, cost, period, phase and finish within
 abbrev pub pass : ℕ → ℕ → ℕ → ℕ → ℕ → Pass
@@ -45,71 +41,71 @@ abbrev pub kind : (ℕ → ℕ) → ℕ → Bool
 kind b letter = eqb (b 0) letter
 
 -- pass: `P`, pass number, cost 16, period 16, phase 16, finish within 16, zz
-unfoldable pub readPass : (ℕ → ℕ) → Option PassRecord
-readPass b = cond (zeros b 10 2) (some (P (pass (b 1) (word (b 2) (b 3)) (word (b 4) (b 5)) (word (b 6) (b 7)) (word (b 8) (b 9))))) none
+unfoldable pub read_pass : (ℕ → ℕ) → Option PassRecord
+read_pass b = cond (zeros b 10 2) (some (P (pass (b 1) (word (b 2) (b 3)) (word (b 4) (b 5)) (word (b 6) (b 7)) (word (b 8) (b 9))))) none
 
 -- flow: `F`, source pass, target pass, z, latency 16, six z
-unfoldable pub readFlow : (ℕ → ℕ) → Option PassRecord
-readFlow b = cond (zeros b 3 1 && zeros b 6 6) (some (F (flow (b 1) (b 2) (word (b 4) (b 5))))) none
+unfoldable pub read_flow : (ℕ → ℕ) → Option PassRecord
+read_flow b = cond (zeros b 3 1 && zeros b 6 6) (some (F (flow (b 1) (b 2) (word (b 4) (b 5))))) none
 
 -- job: `J`, job number, cost 16, release 16, deadline 16, four z
-unfoldable pub readJob : (ℕ → ℕ) → Option JobRecord
-readJob b = cond (zeros b 8 4) (some (J (job (b 1) (word (b 2) (b 3)) (word (b 4) (b 5)) (word (b 6) (b 7))))) none
+unfoldable pub read_job : (ℕ → ℕ) → Option JobRecord
+read_job b = cond (zeros b 8 4) (some (J (job (b 1) (word (b 2) (b 3)) (word (b 4) (b 5)) (word (b 6) (b 7))))) none
 
 -- link: `L`, from job, to job, z, latency 16, six z
-unfoldable pub readLink : (ℕ → ℕ) → Option JobRecord
-readLink b = cond (zeros b 3 1 && zeros b 6 6) (some (L (link (b 1) (b 2) (word (b 4) (b 5))))) none
+unfoldable pub read_link : (ℕ → ℕ) → Option JobRecord
+read_link b = cond (zeros b 3 1 && zeros b 6 6) (some (L (link (b 1) (b 2) (word (b 4) (b 5))))) none
 
 -- slot: `S`, job number, start 16, end 16, six z
-unfoldable pub readSlot : (ℕ → ℕ) → Option Slot
-readSlot b = cond (zeros b 6 6) (some (slot (b 1) (word (b 2) (b 3)) (word (b 4) (b 5)))) none
+unfoldable pub read_slot : (ℕ → ℕ) → Option Slot
+read_slot b = cond (zeros b 6 6) (some (slot (b 1) (word (b 2) (b 3)) (word (b 4) (b 5)))) none
 
 -- "A pass table holds P and F": what a record of one is, if it can be read
-unfoldable pub inPasses : (ℕ → ℕ) → Option PassRecord
-inPasses b = cond (kind b 0x50) (readPass b) (cond (kind b 0x46) (readFlow b) none)
+unfoldable pub in_passes : (ℕ → ℕ) → Option PassRecord
+in_passes b = cond (kind b 0x50) (read_pass b) (cond (kind b 0x46) (read_flow b) none)
 
 -- "a job table J and L"
-unfoldable pub inJobs : (ℕ → ℕ) → Option JobRecord
-inJobs b = cond (kind b 0x4a) (readJob b) (cond (kind b 0x4c) (readLink b) none)
+unfoldable pub in_jobs : (ℕ → ℕ) → Option JobRecord
+in_jobs b = cond (kind b 0x4a) (read_job b) (cond (kind b 0x4c) (read_link b) none)
 
 -- "a schedule S"
-unfoldable pub inSchedule : (ℕ → ℕ) → Option Slot
-inSchedule b = cond (kind b 0x53) (readSlot b) none
+unfoldable pub in_schedule : (ℕ → ℕ) → Option Slot
+in_schedule b = cond (kind b 0x53) (read_slot b) none
 
 -- what reading a record of a pass table answers, in code: one that cannot be read stops the call with a 2
-abbrev pub passRead : Option PassRecord → PassRead
-passRead none = pass-read.Unreadable
-passRead (some r) = pass-read.Record r
+abbrev pub pass_read : Option PassRecord → PassRead
+pass_read none = pass_reading.Unreadable
+pass_read (some r) = pass_reading.Record r
 
 -- the same of a job table
-abbrev pub jobRead : Option JobRecord → JobRead
-jobRead none = job-read.Unreadable
-jobRead (some r) = job-read.Record r
+abbrev pub job_read : Option JobRecord → JobRead
+job_read none = job_reading.Unreadable
+job_read (some r) = job_reading.Record r
 
 -- the twelve bytes of a record of a pass table
-unfoldable pub passBytes : PassRecord → List ℕ
-passBytes (P p) = 0x50 ∷ p .number ∷ pair (p .cost) ++ pair (p .period) ++ pair (p .phase) ++ pair (p .within) ++ replicate 2 0
-passBytes (F f) = 0x46 ∷ f .source ∷ f .target ∷ 0 ∷ pair (f .latency) ++ replicate 6 0
+unfoldable pub pass_bytes : PassRecord → List ℕ
+pass_bytes (P p) = 0x50 ∷ p.number ∷ pair p.cost ++ pair p.period ++ pair p.phase ++ pair p.within ++ replicate 2 0
+pass_bytes (F f) = 0x46 ∷ f.source ∷ f.target ∷ 0 ∷ pair f.latency ++ replicate 6 0
 
 -- those of a job table
-unfoldable pub jobBytes : JobRecord → List ℕ
-jobBytes (J j) = 0x4a ∷ j .number ∷ pair (j .cost) ++ pair (j .release) ++ pair (j .deadline) ++ replicate 4 0
-jobBytes (L l) = 0x4c ∷ l .from ∷ l .to ∷ 0 ∷ pair (l .latency) ++ replicate 6 0
+unfoldable pub job_bytes : JobRecord → List ℕ
+job_bytes (J j) = 0x4a ∷ j.number ∷ pair j.cost ++ pair j.release ++ pair j.deadline ++ replicate 4 0
+job_bytes (L l) = 0x4c ∷ l.from ∷ l.to ∷ 0 ∷ pair l.latency ++ replicate 6 0
 
 -- those of a schedule
-unfoldable pub slotBytes : Slot → List ℕ
-slotBytes s = 0x53 ∷ s .number ∷ pair (s .start) ++ pair (s .end) ++ replicate 6 0
+unfoldable pub slot_bytes : Slot → List ℕ
+slot_bytes s = 0x53 ∷ s.number ∷ pair s.start ++ pair s.end ++ replicate 6 0
 
 -- the fields of a record of a pass table fit their bytes
 abbrev pub PassFits : PassRecord → Type 0
-PassFits (P p) = (p .number < 256) × (p .cost < 65536) × (p .period < 65536) × (p .phase < 65536) × (p .within < 65536)
-PassFits (F f) = (f .source < 256) × (f .target < 256) × (f .latency < 65536)
+PassFits (P p) = (p.number < 256) × (p.cost < 65536) × (p.period < 65536) × (p.phase < 65536) × (p.within < 65536)
+PassFits (F f) = (f.source < 256) × (f.target < 256) × (f.latency < 65536)
 
 -- those of a job table
 abbrev pub JobFits : JobRecord → Type 0
-JobFits (J j) = (j .number < 256) × (j .cost < 65536) × (j .release < 65536) × (j .deadline < 65536)
-JobFits (L l) = (l .from < 256) × (l .to < 256) × (l .latency < 65536)
+JobFits (J j) = (j.number < 256) × (j.cost < 65536) × (j.release < 65536) × (j.deadline < 65536)
+JobFits (L l) = (l.from < 256) × (l.to < 256) × (l.latency < 65536)
 
 -- those of a schedule
 abbrev pub SlotFits : Slot → Type 0
-SlotFits s = (s .number < 256) × (s .start < 65536) × (s .end < 65536)
+SlotFits s = (s.number < 256) × (s.start < 65536) × (s.end < 65536)

@@ -1,32 +1,28 @@
 -- A table as its records: decoded one after another, and encoded again. `read` says what a record of this kind of table is, and `write` its bytes.
-use Prim.Native.Nat.{ℕ, zero, suc, _+_, _/_, _%_}
-use mathlib.Core.Bool.{Bool, true, false, not, _||_}
-use mathlib.Core.List.{List, [], _∷_, _++_}
-use mathlib.Core.Option.{Option, none, some}
-use lib.ListN.{length}
-use lib.Dec.{eqb, ltb}
-use Rattle·laws.specs.Lists.{flat, found, firstFault}
-use Rattle·records·specs.specs.Bytes.{recordAt}
-use Rattle·records·specs.specs.declared.table.Found.{Found}
-use Rattle·records·specs.specs.declared.table.Found.the-variants.{At, Nothing}
+use Rattle.std.specs.Prelude.{ℕ, zero, suc, ◌+◌, ◌/◌, ◌%◌, Bool, not, ◌||◌, List, [], ◌∷◌, length, eqb, ltb}
+use Rattle.std.proofs.Math.Option.{Option, none, some}
+use Rattle.laws.specs.Lists.{flat, found, first_fault}
+use Rattle.records.specs.Bytes.{record_at}
+use Rattle.records.specs.declared.table.Found.{Found}
+use Rattle.records.specs.declared.table.Found.TheVariants.{At, Nothing}
 
 -- 1: "length no multiple of 12, or over 49,152 bytes (4,096 records)"
-unfoldable pub badLength : List ℕ → Bool
-badLength bytes = not (eqb (length bytes % 12) 0) || ltb 49152 (length bytes)
+unfoldable pub bad_length : List ℕ → Bool
+bad_length bytes = not (eqb (length bytes % 12) 0) || ltb 49152 (length bytes)
 
 module _ {A : Type 0} where
   -- "records are read one after another": the n records from a place on, each as it is read
   unfoldable pub reads : ((ℕ → ℕ) → Option A) → List ℕ → ℕ → ℕ → List (Option A)
   reads read bytes place zero = []
-  reads read bytes place (suc n) = read (recordAt bytes place) ∷ reads read bytes (place + 1) n
+  reads read bytes place (suc n) = read (record_at bytes place) ∷ reads read bytes (place + 1) n
 
   -- the records of a whole table, each as it is read
-  unfoldable pub readAll : ((ℕ → ℕ) → Option A) → List ℕ → List (Option A)
-  readAll read bytes = reads read bytes 0 (length bytes / 12)
+  unfoldable pub read_all : ((ℕ → ℕ) → Option A) → List ℕ → List (Option A)
+  read_all read bytes = reads read bytes 0 (length bytes / 12)
 
   -- 2: "kind not of this table, or a z byte that is not zero": the first record that cannot be read
   unfoldable pub unreadable : List (Option A) → Option ℕ
-  unreadable = firstFault (λ before r. not (found r)) [] 0
+  unreadable = first_fault (λ before r. not (found r)) [] 0
 
   -- the records that could be read
   unfoldable pub readable : List (Option A) → List A
@@ -36,13 +32,13 @@ module _ {A : Type 0} where
 
   -- decoding: the records of a table
   unfoldable pub decode : ((ℕ → ℕ) → Option A) → List ℕ → List A
-  decode read bytes = readable (readAll read bytes)
+  decode read bytes = readable (read_all read bytes)
 
   -- encoding: the records' bytes, one after another
   unfoldable pub encode : (A → List ℕ) → List A → List ℕ
   encode write = flat write
 
 -- a place that was looked for, as code answers it
-abbrev pub asFound : Option ℕ → Found
-asFound none = Nothing
-asFound (some place) = At place
+abbrev pub as_found : Option ℕ → Found
+as_found none = Nothing
+as_found (some place) = At place

@@ -1,5 +1,7 @@
 // The five 12-byte records of document 01 as plain values; reading one at a place of a table, and writing one at a place of an output.
 
+#![tactic(auto)]
+
 pub mod plain;
 pub mod read;
 pub mod reader;
@@ -7,6 +9,7 @@ pub mod table;
 pub mod write;
 
 // A pass: what it costs, how often it runs, when in its period it is released, and within what time it must finish.
+#[derive(Clone, Copy)]
 pub struct Pass {
     pub number: u8,
     pub cost: u16,
@@ -16,6 +19,7 @@ pub struct Pass {
 }
 
 // The target pass reads what the source pass wrote, at least `latency` after the source's end.
+#[derive(Clone, Copy)]
 pub struct Flow {
     pub source: u8,
     pub target: u8,
@@ -23,6 +27,7 @@ pub struct Flow {
 }
 
 // A job: it may start at its release and must end by its deadline.
+#[derive(Clone, Copy)]
 pub struct Job {
     pub number: u8,
     pub cost: u16,
@@ -31,6 +36,7 @@ pub struct Job {
 }
 
 // The to job starts at least `latency` after the from job's end.
+#[derive(Clone, Copy)]
 pub struct Link {
     pub from: u8,
     pub to: u8,
@@ -38,6 +44,7 @@ pub struct Link {
 }
 
 // A job's place on the core.
+#[derive(Clone, Copy)]
 pub struct Slot {
     pub number: u8,
     pub start: u16,
@@ -45,24 +52,28 @@ pub struct Slot {
 }
 
 // A pass table holds P and F.
+#[derive(Clone, Copy)]
 pub enum PassRecord {
     P(Pass),
     F(Flow),
 }
 
 // A job table holds J and L.
+#[derive(Clone, Copy)]
 pub enum JobRecord {
     J(Job),
     L(Link),
 }
 
 // What reading a record of a pass table answers.
+#[derive(Clone, Copy)]
 pub enum PassRead {
     Record(PassRecord),
     Unreadable,
 }
 
 // What reading a record of a job table answers.
+#[derive(Clone, Copy)]
 pub enum JobRead {
     Record(JobRecord),
     Unreadable,

@@ -1,37 +1,29 @@
 // The plain record functions: what stands at a place of the lent bytes, by the bytes and the place alone.
-use crate::Flow;
-use crate::Job;
-use crate::JobRead;
-use crate::JobRecord;
-use crate::Link;
-use crate::Pass;
-use crate::PassRead;
-use crate::PassRecord;
-ghost use mathlib.Core.Path.{_≡_};
-ghost use Prim.Native.Nat.{_+_, _*_, _≤_};
-ghost use lib.ListN.{length};
-ghost use Rattle·records·specs.specs.Bytes.{word, zeros, bytesFrom, recordAt};
-ghost use Rattle·records·specs.specs.Record.{readPass, readFlow, readJob, readLink, inPasses, inJobs, passRead, jobRead};
+ghost use Rattle.std.specs.Prelude.{◌≡◌, ◌+◌, ◌*◌, ◌≤◌, length};
+ghost use Rattle.records.specs.Bytes.{word, zeros, bytes_from, record_at};
+ghost use Rattle.records.specs.Record.{read_pass, read_flow, read_job, read_link, in_passes, in_jobs, pass_read, job_read};
+
+use crate::{Flow, Job, JobRead, JobRecord, Link, Pass, PassRead, PassRecord};
 
 // The 16-bit number that two bytes hold, the low one first.
 fn word_of(low: u8, high: u8) -> u16
-    ensures { λ r. ⌜ r ≡ word low high ⌝ }
+    ensures { result ≡ word low high }
 {
     low as u16 + 256 * (high as u16)
 }
 
 // The 16-bit number at bytes k and k + 1 of the record that starts at `at`, low byte first.
 fn word_at(s: &[u8], at: usize, k: usize) -> u16
-    requires { ⌜ at + (k + 2) ≤ length (now s) ⌝ }
-    ensures { λ r. ⌜ r ≡ word (bytesFrom (now (s .entry)) at k) (bytesFrom (now (s .entry)) at (k + 1)) ⌝ }
+    requires { at + (k + 2) ≤ length s.now }
+    ensures { result ≡ word (bytes_from s.now at k) (bytes_from s.now at (k + 1)) }
 {
     word_of(s[at + k], s[at + (k + 1)])
 }
 
 // The n bytes from k on of the record that starts at `at` are zero.
 fn zero_from(s: &[u8], at: usize, k: usize, n: usize) -> bool
-    requires { ⌜ at + (k + n) ≤ length (now s) ⌝ }
-    ensures { λ r. ⌜ r ≡ zeros (bytesFrom (now (s .entry)) at) k n ⌝ }
+    requires { at + (k + n) ≤ length s.now }
+    ensures { result ≡ zeros (bytes_from s.now at) k n }
 {
     let end = k + n;
     let mut i = k;
@@ -46,8 +38,8 @@ fn zero_from(s: &[u8], at: usize, k: usize, n: usize) -> bool
 
 // The pass that starts at `at`, if its z bytes are zero.
 fn pass_at(s: &[u8], at: usize) -> PassRead
-    requires { ⌜ at + 12 ≤ length (now s) ⌝ }
-    ensures { λ r. ⌜ r ≡ passRead (readPass (bytesFrom (now (s .entry)) at)) ⌝ }
+    requires { at + 12 ≤ length s.now }
+    ensures { result ≡ pass_read (read_pass (bytes_from s.now at)) }
 {
     if !zero_from(s, at, 10, 2) {
         return PassRead::Unreadable;
@@ -63,8 +55,8 @@ fn pass_at(s: &[u8], at: usize) -> PassRead
 
 // The flow that starts at `at`, if its z bytes are zero.
 fn flow_at(s: &[u8], at: usize) -> PassRead
-    requires { ⌜ at + 12 ≤ length (now s) ⌝ }
-    ensures { λ r. ⌜ r ≡ passRead (readFlow (bytesFrom (now (s .entry)) at)) ⌝ }
+    requires { at + 12 ≤ length s.now }
+    ensures { result ≡ pass_read (read_flow (bytes_from s.now at)) }
 {
     if !zero_from(s, at, 3, 1) {
         return PassRead::Unreadable;
@@ -81,8 +73,8 @@ fn flow_at(s: &[u8], at: usize) -> PassRead
 
 // The job that starts at `at`, if its z bytes are zero.
 fn job_at(s: &[u8], at: usize) -> JobRead
-    requires { ⌜ at + 12 ≤ length (now s) ⌝ }
-    ensures { λ r. ⌜ r ≡ jobRead (readJob (bytesFrom (now (s .entry)) at)) ⌝ }
+    requires { at + 12 ≤ length s.now }
+    ensures { result ≡ job_read (read_job (bytes_from s.now at)) }
 {
     if !zero_from(s, at, 8, 4) {
         return JobRead::Unreadable;
@@ -97,8 +89,8 @@ fn job_at(s: &[u8], at: usize) -> JobRead
 
 // The link that starts at `at`, if its z bytes are zero.
 fn link_at(s: &[u8], at: usize) -> JobRead
-    requires { ⌜ at + 12 ≤ length (now s) ⌝ }
-    ensures { λ r. ⌜ r ≡ jobRead (readLink (bytesFrom (now (s .entry)) at)) ⌝ }
+    requires { at + 12 ≤ length s.now }
+    ensures { result ≡ job_read (read_link (bytes_from s.now at)) }
 {
     if !zero_from(s, at, 3, 1) {
         return JobRead::Unreadable;
@@ -115,8 +107,8 @@ fn link_at(s: &[u8], at: usize) -> JobRead
 
 // The record at a place of a pass table.
 pub fn pass_record(s: &[u8], place: usize) -> PassRead
-    requires { ⌜ 12 * place + 12 ≤ length (now s) ⌝ }
-    ensures { λ r. ⌜ r ≡ passRead (inPasses (recordAt (now (s .entry)) place)) ⌝ }
+    requires { 12 * place + 12 ≤ length s.now }
+    ensures { result ≡ pass_read (in_passes (record_at s.now place)) }
 {
     let at = 12 * place;
     let kind = s[at];
@@ -131,8 +123,8 @@ pub fn pass_record(s: &[u8], place: usize) -> PassRead
 
 // The record at a place of a job table.
 pub fn job_record(s: &[u8], place: usize) -> JobRead
-    requires { ⌜ 12 * place + 12 ≤ length (now s) ⌝ }
-    ensures { λ r. ⌜ r ≡ jobRead (inJobs (recordAt (now (s .entry)) place)) ⌝ }
+    requires { 12 * place + 12 ≤ length s.now }
+    ensures { result ≡ job_read (in_jobs (record_at s.now place)) }
 {
     let at = 12 * place;
     let kind = s[at];

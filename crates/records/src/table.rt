@@ -1,8 +1,9 @@
 // A whole table: its length, and the place of a record that is looked for.
-ghost use mathlib.Core.Path.{_≡_};
-ghost use Rattle·records·specs.specs.Table.{badLength};
+ghost use Rattle.std.specs.Prelude.{◌≡◌};
+ghost use Rattle.records.specs.Table.{bad_length};
 
 // The place of the first record that is looked for, if there is one.
+#[derive(Clone, Copy)]
 pub enum Found {
     At(usize),
     Nothing,
@@ -10,7 +11,7 @@ pub enum Found {
 
 // 1: the length is no multiple of 12, or over 49,152 bytes.
 pub fn bad_length(s: &[u8]) -> bool
-    ensures { λ r. ⌜ r ≡ badLength (now (s .entry)) ⌝ }
+    ensures { result ≡ bad_length s.now }
 {
     if s.len() % 12 != 0 {
         return true;

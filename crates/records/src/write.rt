@@ -1,32 +1,29 @@
 // Writing a record at a place of an output.
-use crate::Job;
-use crate::Link;
-use crate::Slot;
-ghost use mathlib.Core.Path.{_≡_};
-ghost use Prim.Native.Nat.{_+_, _*_, _/_, _%_, _≤_};
-ghost use lib.ListN.{length};
-ghost use lib.Seq.{paste};
-ghost use Rattle·records·specs.specs.Record.{jobBytes, slotBytes};
-ghost use Rattle·records·specs.specs.declared.JobRecord.the-variants.{J, L};
+ghost use Rattle.std.specs.Prelude.{◌≡◌, ◌+◌, ◌*◌, ◌/◌, ◌%◌, ◌≤◌, length};
+ghost use Rattle.std.proofs.Math.Seq.{paste};
+ghost use Rattle.records.specs.Record.{job_bytes, slot_bytes};
+ghost use Rattle.records.specs.declared.JobRecord.TheVariants.{J, L};
+
+use crate::{Job, Link, Slot};
 
 // The low byte of a 16-bit number.
 fn low(n: u16) -> u8
-    ensures { λ r. ⌜ r ≡ n % 256 ⌝ }
+    ensures { result ≡ n % 256 }
 {
     (n % 256) as u8
 }
 
 // Its high byte.
 fn high(n: u16) -> u8
-    ensures { λ r. ⌜ r ≡ n / 256 % 256 ⌝ }
+    ensures { result ≡ n / 256 % 256 }
 {
     (n / 256 % 256) as u8
 }
 
 // Twelve bytes at a place of the output.
 fn put(out: &mut [u8], place: usize, bytes: [u8; 12])
-    requires { ⌜ 12 * place + 12 ≤ length (now out) ⌝ }
-    ensures { λ _. ⌜ now (out .exit) ≡ paste (now (out .entry)) (12 * place) bytes 12 ⌝ }
+    requires { 12 * place + 12 ≤ length out.old }
+    ensures { out.new ≡ paste out.old (12 * place) bytes 12 }
 {
     let at = 12 * place;
     let mut k: usize = 0;
@@ -38,8 +35,8 @@ fn put(out: &mut [u8], place: usize, bytes: [u8; 12])
 
 // A job record at a place of the output.
 pub fn write_job(out: &mut [u8], place: usize, job: Job)
-    requires { ⌜ 12 * place + 12 ≤ length (now out) ⌝ }
-    ensures { λ _. ⌜ now (out .exit) ≡ paste (now (out .entry)) (12 * place) (jobBytes (J job)) 12 ⌝ }
+    requires { 12 * place + 12 ≤ length out.old }
+    ensures { out.new ≡ paste out.old (12 * place) (job_bytes (J job)) 12 }
 {
     let cost = job.cost;
     let release = job.release;
@@ -66,8 +63,8 @@ pub fn write_job(out: &mut [u8], place: usize, job: Job)
 
 // A link record at a place of the output.
 pub fn write_link(out: &mut [u8], place: usize, link: Link)
-    requires { ⌜ 12 * place + 12 ≤ length (now out) ⌝ }
-    ensures { λ _. ⌜ now (out .exit) ≡ paste (now (out .entry)) (12 * place) (jobBytes (L link)) 12 ⌝ }
+    requires { 12 * place + 12 ≤ length out.old }
+    ensures { out.new ≡ paste out.old (12 * place) (job_bytes (L link)) 12 }
 {
     let latency = link.latency;
     put(
@@ -92,8 +89,8 @@ pub fn write_link(out: &mut [u8], place: usize, link: Link)
 
 // A slot record at a place of the output.
 pub fn write_slot(out: &mut [u8], place: usize, slot: Slot)
-    requires { ⌜ 12 * place + 12 ≤ length (now out) ⌝ }
-    ensures { λ _. ⌜ now (out .exit) ≡ paste (now (out .entry)) (12 * place) (slotBytes slot) 12 ⌝ }
+    requires { 12 * place + 12 ≤ length out.old }
+    ensures { out.new ≡ paste out.old (12 * place) (slot_bytes slot) 12 }
 {
     let start = slot.start;
     let end = slot.end;

@@ -1,15 +1,15 @@
 -- The cases of scheduling, by computation: what this crate's must-fail edits of the definitions break. Assumes nothing.
-use mathlib.Core.Path.{_≡_, refl}
+use mathlib.Core.Path.{◌≡◌, refl}
 use mathlib.Core.Bool.{true}
-use mathlib.Core.List.{_++_}
-use Rattle·cases.specs.Case.{allPass, ofCalls, isScheduling, budgetOf}
-use Rattle·cases.specs.Starred.{starred}
-use Rattle·cases.specs.Further.{further}
-use Rattle·cases.specs.Edges.{edges}
-use Rattle·cases.proofs.Computes.{computes as cases}
-use Rattle·search·specs.specs.Call.{scheduled}
-use Rattle·search·proofs.proofs.Computes.{computes}
+use mathlib.Core.List.{◌++◌}
+use Rattle.cases.specs.Case.{all_pass, of_calls, is_scheduling, budget_of}
+use Rattle.cases.specs.Starred.{starred}
+use Rattle.cases.specs.Further.{further}
+use Rattle.cases.specs.Edges.{edges}
+use Rattle.cases.proofs.Computes.{computes as cases}
+use Rattle.search.specs.Call.{scheduled}
+use Rattle.search.proofs.Computes.{computes}
 
-pub scheduling-passes : allPass (λ call bytes room. scheduled bytes (budgetOf call) room) (ofCalls isScheduling (starred ++ further ++ edges)) ≡ true
+pub scheduling_passes : all_pass (λ call bytes room. scheduled bytes (budget_of call) room) (of_calls is_scheduling (starred ++ further ++ edges)) ≡ true
 unfolding computes cases
-scheduling-passes = refl
+scheduling_passes = refl

@@ -1,10 +1,10 @@
 -- One name that opens this crate's definitions and those below it to computation.
-use Rattle·normal.proofs.Computes.{computes as normal}
-use Rattle·search·specs.specs.Run.{has, mayFollow, endIn, free, linksAllow, startAfter, runNext, run}
-use Rattle·search·specs.specs.Live.{remaining, onTime, eachFits, allFit, live}
-use Rattle·search·specs.specs.Tree.{opens, tryEach, openFrom, openSequences, firstFull, upToFull, schedule, openings}
-use Rattle·search·specs.specs.Call.{scheduleNumber, slotsBytes, decided, searched, scheduled}
+use Rattle.normal.proofs.Computes.{computes as normal}
+use Rattle.search.specs.Run.{has, may_follow, end_in, free, links_allow, start_after, run_next, run}
+use Rattle.search.specs.Live.{remaining, on_time, each_fits, all_fit, live}
+use Rattle.search.specs.Tree.{opens, try_each, open_from, open_sequences, first_full, up_to_full, schedule, openings}
+use Rattle.search.specs.Call.{schedule_number, slots_bytes, decided, searched, scheduled}
 
 unfoldable pub computes : Unit {0}
-unfolding normal has mayFollow endIn free linksAllow startAfter runNext run remaining onTime eachFits allFit live opens tryEach openFrom openSequences firstFull upToFull schedule openings scheduleNumber slotsBytes decided searched scheduled
+unfolding normal has may_follow end_in free links_allow start_after run_next run remaining on_time each_fits all_fit live opens try_each open_from open_sequences first_full up_to_full schedule openings schedule_number slots_bytes decided searched scheduled
 computes = tt

@@ -1,15 +1,15 @@
 -- Laws of the marks of the jobs that there are: what each turn of `limit_of` shows.
 -- The limit of the numbers below k and that of the numbers from k on are together the limit of all.
-use Prim.Native.Nat.{ℕ, _+_, _≤_, _<_, max}
+use Prim.Native.Nat.{ℕ, ◌+◌, ◌≤◌, ◌<◌, max}
 use native.Mathlib.Omega.{arith}
-use mathlib.Core.Path.{_≡_, ap}
+use mathlib.Core.Path.{◌≡◌, ap}
 use mathlib.Core.Bool.{true, false}
 use mathlib.Core.List.{List, map}
-use lib.ListN.{getD}
-use Rattle·laws.specs.Lists.{largest}
-use Rattle·jobs.specs.declared.Jobs.{Jobs}
-use Rattle·normal.proofs.RecordsFrom.{presentFrom, present-first, present-taken, present-left, present-end}
-use Rattle·search·specs.specs.State.{limitOf}
+use lib.ListN.{get_or}
+use Rattle.laws.specs.Lists.{largest}
+use Rattle.jobs.specs.declared.Jobs.{Jobs}
+use Rattle.normal.proofs.RecordsFrom.{present_from, present_first, present_taken, present_left, present_end}
+use Rattle.search.specs.State.{limit_of}
 
 -- one more than the largest of some numbers
 abbrev past : List ℕ → ℕ
@@ -17,22 +17,22 @@ past ns = largest (map (λ n. n + 1) ns)
 
 module _ (jobs : Jobs) where
   -- the limit, with that of the numbers below k at hand
-  unfoldable pub limitFrom : ℕ → ℕ → ℕ
-  limitFrom n k = max n (past (presentFrom jobs k))
+  unfoldable pub limit_from : ℕ → ℕ → ℕ
+  limit_from n k = max n (past (present_from jobs k))
 
-  pub limit-start : limitFrom 0 0 ≡ limitOf jobs
-  unfolding limitFrom limitOf
-  limit-start = omega (arith, ap past (present-first jobs))
+  pub limit_start : limit_from 0 0 ≡ limit_of jobs
+  unfolding limit_from limit_of
+  limit_start = omega (arith, ap past (present_first jobs))
 
-  pub limit-done : (n k : ℕ) → 48 ≤ k → n ≡ limitFrom n k
-  unfolding limitFrom
-  limit-done n k h = omega (arith, ap past (present-end jobs k h))
+  pub limit_done : (n k : ℕ) → 48 ≤ k → n ≡ limit_from n k
+  unfolding limit_from
+  limit_done n k h = omega (arith, ap past (present_end jobs k h))
 
   module _ (n m k : ℕ) (below : k < 48) where
-    pub limit-skip : m ≡ n → getD (jobs .present) k false ≡ false → limitFrom m (k + 1) ≡ limitFrom n k
-    unfolding limitFrom
-    limit-skip e h = omega (arith, ap past (present-left jobs k below h))
+    pub limit_skip : m ≡ n → get_or jobs.present k false ≡ false → limit_from m (k + 1) ≡ limit_from n k
+    unfolding limit_from
+    limit_skip e h = omega (arith, ap past (present_left jobs k below h))
 
-    pub limit-on : m ≡ k + 1 → n ≤ k → getD (jobs .present) k false ≡ true → limitFrom m (k + 1) ≡ limitFrom n k
-    unfolding limitFrom
-    limit-on e l h = omega (arith, ap past (present-taken jobs k below h))
+    pub limit_on : m ≡ k + 1 → n ≤ k → get_or jobs.present k false ≡ true → limit_from m (k + 1) ≡ limit_from n k
+    unfolding limit_from
+    limit_on e l h = omega (arith, ap past (present_taken jobs k below h))

@@ -1,15 +1,16 @@
 // The test for live: when a job could start next, and whether the jobs that remain fit after it.
-ghost use mathlib.Core.Path.{_≡_};
-ghost use Prim.Native.Nat.{_+_, _<_, _≤_, max};
-ghost use Rattle·search·specs.specs.State.{linked, startAt, StartBelow, remainsAfter, fitsAfter, restFits, opensAt};
+ghost use Rattle.std.specs.Prelude.{◌≡◌, ◌+◌, ◌<◌, ◌≤◌, max};
+ghost use Rattle.search.specs.State.{linked, start_at, StartBelow, remains_after, fits_after, rest_fits, opens_at};
 
 // When a job may start.
+#[derive(Clone, Copy)]
 pub enum Start {
     At(u32),
     NotYet,
 }
 
 // When a job that may come next ends.
+#[derive(Clone, Copy)]
 pub enum Next {
     Ends(u16),
     Not,
@@ -17,14 +18,14 @@ pub enum Next {
 
 // A time as a wider number, in which the sum of some fits.
 fn wide(x: u16) -> u32
-    ensures { λ r. ⌜ (r ≡ x) × (r < 65536) ⌝ }
+    ensures { (result ≡ x) × (result < 65536) }
 {
     x as u32
 }
 
 // The larger of two times.
 fn larger(a: u32, b: u32) -> u32
-    ensures { λ r. ⌜ r ≡ max a b ⌝ }
+    ensures { result ≡ max a b }
 {
     if a < b {
         return b;
@@ -40,9 +41,9 @@ fn start_after<'a>(
     ends: &'a [u16; 48],
     first: u32,
 ) -> Start
-    requires { ⌜ (limit ≤ 48) × (first < 131072) ⌝ }
-    ensures { λ r. ⌜ r ≡ startAt (now (into .entry)) (now (placed .entry)) (now (ends .entry)) first (linked (now (into .entry)) limit) ⌝ }
-    ensures { λ r. ⌜ StartBelow 131072 r ⌝ }
+    requires { (limit ≤ 48) × (first < 131072) }
+    ensures value { result ≡ start_at into.now placed.now ends.now first (linked into.now limit) }
+    ensures start_below { StartBelow 131072 result }
 {
     let mut t = first;
     let mut i: usize = 0;
@@ -61,8 +62,8 @@ fn start_after<'a>(
 
 // Job m remains after job k.
 fn remains(placed: &[bool; 48], k: usize, m: usize) -> bool
-    requires { ⌜ m < 48 ⌝ }
-    ensures { λ r. ⌜ r ≡ remainsAfter (now (placed .entry)) k m ⌝ }
+    requires { m < 48 }
+    ensures { result ≡ remains_after placed.now k m }
 {
     if m == k {
         return false;
@@ -72,8 +73,8 @@ fn remains(placed: &[bool; 48], k: usize, m: usize) -> bool
 
 // Job m, run by itself, fits after the time t.
 fn fits_alone(cost: &[u16; 48], release: &[u16; 48], deadline: &[u16; 48], t: u32, m: usize) -> bool
-    requires { ⌜ (m < 48) × (t < 65536) ⌝ }
-    ensures { λ r. ⌜ r ≡ fitsAfter (now (cost .entry)) (now (release .entry)) (now (deadline .entry)) t m ⌝ }
+    requires { (m < 48) × (t < 65536) }
+    ensures { result ≡ fits_after cost.now release.now deadline.now t m }
 {
     larger(t, wide(release[m])) + wide(cost[m]) <= wide(deadline[m])
 }
@@ -88,8 +89,8 @@ pub fn rest_fits(
     k: usize,
     t: u32,
 ) -> bool
-    requires { ⌜ (limit ≤ 48) × (t < 65536) ⌝ }
-    ensures { λ r. ⌜ r ≡ restFits (now (cost .entry)) (now (release .entry)) (now (deadline .entry)) limit (now (placed .entry)) k t ⌝ }
+    requires { (limit ≤ 48) × (t < 65536) }
+    ensures { result ≡ rest_fits cost.now release.now deadline.now limit placed.now k t }
 {
     let mut costs: u32 = 0;
     let mut last: u32 = 0;
@@ -122,8 +123,8 @@ pub fn opens_at<'a>(
     free: u16,
     k: usize,
 ) -> Next
-    requires { ⌜ (limit ≤ 48) × (k < 48) ⌝ }
-    ensures { λ r. ⌜ r ≡ opensAt (now (cost .entry)) (now (release .entry)) (now (deadline .entry)) (now (into .entry)) limit (now (placed .entry)) (now (ends .entry)) free k ⌝ }
+    requires { (limit ≤ 48) × (k < 48) }
+    ensures { result ≡ opens_at cost.now release.now deadline.now into.now limit placed.now ends.now free k }
 {
     if placed[k] {
         return Next::Not;

@@ -1,17 +1,17 @@
 // The search for the first schedule in order, on a normal form.
+
+#![tactic(auto)]
+
+ghost use Rattle.std.specs.Prelude.{◌≡◌, not, List, map, ◌*◌, ◌≤◌, length};
+ghost use Rattle.records.specs.declared.JobRecord.{JobRecord};
+ghost use Rattle.jobs.specs.Judge.{Sound};
+ghost use Rattle.jobs.specs.Arrays.{jobs_of};
+ghost use Rattle.normal.specs.Chosen.{present_in};
+ghost use Rattle.search.specs.Call.{searched};
+ghost use Rattle.search.specs.State.{limit_of, links_into, Answers};
+
 use jobs::Jobs;
 use normal::write::count_jobs;
-ghost use mathlib.Core.Path.{_≡_};
-ghost use mathlib.Core.Bool.{not};
-ghost use mathlib.Core.List.{List, map};
-ghost use Prim.Native.Nat.{_*_, _≤_};
-ghost use lib.ListN.{length};
-ghost use Rattle·records.specs.declared.JobRecord.{JobRecord};
-ghost use Rattle·jobs.specs.Judge.{Sound};
-ghost use Rattle·jobs.specs.Arrays.{jobsOf};
-ghost use Rattle·normal.specs.Chosen.{presentIn};
-ghost use Rattle·search·specs.specs.Call.{searched};
-ghost use Rattle·search·specs.specs.State.{limitOf, linksInto, Answers};
 
 pub mod fit;
 pub mod tree;
@@ -20,6 +20,7 @@ pub mod tree;
 const NO_JOB: usize = 48;
 
 // Which jobs have run, in what order, when each of them ended, and when the core is free. A number that no job has is marked as placed.
+#[derive(Clone, Copy)]
 pub struct State {
     pub placed: [bool; 48],
     pub order: [u8; 48],
@@ -28,6 +29,7 @@ pub struct State {
 }
 
 // What bounds a search: the job numbers are below `limit`, there are `count` jobs, and at most `budget` sequences are opened.
+#[derive(Clone, Copy)]
 pub struct Bounds {
     pub limit: usize,
     pub count: usize,
@@ -35,6 +37,7 @@ pub struct Bounds {
 }
 
 // What a search answers: 0 with the slots written, 10 or 11, and the openings.
+#[derive(Clone, Copy)]
 pub struct Found {
     pub number: u32,
     pub openings: u32,
@@ -42,7 +45,7 @@ pub struct Found {
 
 // The numbers that no job has.
 fn absent(present: [bool; 48]) -> [bool; 48]
-    ensures { λ r. ⌜ r ≡ map not present ⌝ }
+    ensures { result ≡ map not present }
 {
     let mut marks = present;
     let mut k: usize = 0;
@@ -55,7 +58,7 @@ fn absent(present: [bool; 48]) -> [bool; 48]
 
 // One more than the largest job number.
 fn limit_of(jobs: Jobs) -> usize
-    ensures { λ r. ⌜ (r ≡ limitOf jobs) × (r ≤ 48) ⌝ }
+    ensures { (result ≡ limit_of jobs) × (result ≤ 48) }
 {
     let mut limit: usize = 0;
     let mut k: usize = 0;
@@ -71,8 +74,8 @@ fn limit_of(jobs: Jobs) -> usize
 // The search under a budget on a normal form, given as its jobs by number and, by number too, the links into each job: `into[k][i]` is one more than the latency
 // of the link from i to k, 0 where there is none. The output has room for a slot of each job.
 pub fn search(jobs: Jobs, into: &[[u16; 48]; 48], budget: u32, out: &mut [u8]) -> Found
-    requires { ⌜ 12 * length (presentIn jobs) ≤ length (now out) ⌝ }
-    ensures { λ r. ⌜ ((table : List JobRecord) → Sound table → jobs ≡ jobsOf table → now (into .entry) ≡ linksInto table → Answers (searched table budget) r (now (out .entry)) (now (out .exit))) ⌝ }
+    requires { 12 * length (present_in jobs) ≤ length out.old }
+    ensures { (table : List JobRecord) → Sound table → jobs ≡ jobs_of table → into.now ≡ links_into table → Answers (searched table budget) result out.old out.new }
 {
     let present = jobs.present;
     let cost = jobs.cost;

@@ -1,22 +1,17 @@
 // The tree of open sequences, gone through in the order of words.
-use crate::Bounds;
-use crate::Found;
-use crate::State;
-use crate::fit;
+ghost use Rattle.std.specs.Prelude.{◌≡◌, List, ℕ, ◌+◌, ◌*◌, ◌<◌, ◌≤◌, length};
+ghost use Rattle.records.specs.Outcome.{overwrite};
+ghost use Rattle.search.specs.State.{at, place_at, slots_in, HaveRun, given, opening, trying, Answers};
+
 use crate::fit::Next;
+use crate::{Bounds, Found, State, fit};
 use records::Slot;
-ghost use mathlib.Core.Path.{_≡_};
-ghost use mathlib.Core.List.{List};
-ghost use Prim.Native.Nat.{ℕ, _+_, _*_, _<_, _≤_};
-ghost use lib.ListN.{length};
-ghost use Rattle·records.specs.Outcome.{overwrite};
-ghost use Rattle·search·specs.specs.State.{at, placeAt, slotsIn, HaveRun, given, opening, trying, Answers};
 
 // The state with job k run next, at the place `depth`, until `end`.
 fn place(s: State, k: usize, end: u16, depth: usize) -> State
-    requires { ⌜ (k < 48) × (depth < 48) ⌝ }
-    ensures { λ r. ⌜ r ≡ placeAt s k end depth ⌝ }
-    ensures { λ r. ⌜ ((cost : List ℕ) → HaveRun cost (s .order) (s .ends) depth → at cost k ≤ end → HaveRun cost (r .order) (r .ends) (depth + 1)) ⌝ }
+    requires { (k < 48) × (depth < 48) }
+    ensures value { result ≡ place_at s k end depth }
+    ensures by_index { (cost : List ℕ) → HaveRun cost s.order s.ends depth → at cost k ≤ end → HaveRun cost result.order result.ends (depth + 1) }
 {
     let mut t = s;
     t.placed[k] = true;
@@ -28,7 +23,7 @@ fn place(s: State, k: usize, end: u16, depth: usize) -> State
 
 // A job number as an index.
 fn index(number: u8) -> usize
-    ensures { λ r. ⌜ r ≡ number ⌝ }
+    ensures { result ≡ number }
 {
     number as usize
 }
@@ -41,8 +36,8 @@ fn write_slots<'a>(
     ends: &'a [u16; 48],
     count: usize,
 )
-    requires { ⌜ (count ≤ 48) × (12 * count ≤ length (now out)) × HaveRun (now cost) (now order) (now ends) count ⌝ }
-    ensures { λ _. ⌜ now (out .exit) ≡ overwrite (slotsIn (now (cost .entry)) (now (order .entry)) (now (ends .entry)) count) (now (out .entry)) ⌝ }
+    requires { (count ≤ 48) × (12 * count ≤ length out.old) × HaveRun cost.now order.now ends.now count }
+    ensures { out.new ≡ overwrite (slots_in cost.now order.now ends.now count) out.old }
 {
     let mut i: usize = 0;
     while i < count {
@@ -56,6 +51,7 @@ fn write_slots<'a>(
 }
 
 // Opens a sequence, with n opened before it: counts it, unless the budget is spent; writes its slots, if it holds all jobs; else tries its next job.
+#[cycle(open_try_next)]
 pub fn open(
     cost: &[u16; 48],
     release: &[u16; 48],
@@ -67,9 +63,9 @@ pub fn open(
     n: u32,
     out: &mut [u8],
 ) -> Found
-    requires { ⌜ (b .limit ≤ 48) × (b .count ≤ 48) × (depth ≤ b .count) × (n ≤ b .budget) × (12 * b .count ≤ length (now out)) × HaveRun (now cost) (s .order) (s .ends) depth ⌝ }
-    ensures { λ r. ⌜ r .openings ≤ b .budget ⌝ }
-    ensures { λ r. ⌜ Answers (opening (given (now (cost .entry)) (now (release .entry)) (now (deadline .entry)) (now (into .entry)) (b .limit) (b .count)) (b .budget) s depth n) r (now (out .entry)) (now (out .exit)) ⌝ }
+    requires { (b.limit ≤ 48) × (b.count ≤ 48) × (depth ≤ b.count) × (n ≤ b.budget) × (12 * b.count ≤ length out.old) × HaveRun cost.now s.order s.ends depth }
+    ensures openings_le_budget { result.openings ≤ b.budget }
+    ensures answers { Answers (opening (given cost.now release.now deadline.now into.now b.limit b.count) b.budget s depth n) result out.old out.new }
 {
     let budget = b.budget;
     let count = b.count;
@@ -90,6 +86,7 @@ pub fn open(
 }
 
 // Tries the jobs from `from` on as the next one: opens the sequence with the first of them that may come next, and then tries those after it.
+#[cycle(open_try_next)]
 fn try_next(
     cost: &[u16; 48],
     release: &[u16; 48],
@@ -102,24 +99,16 @@ fn try_next(
     n: u32,
     out: &mut [u8],
 ) -> Found
-    requires { ⌜ (b .limit ≤ 48) × (b .count ≤ 48) × (depth < b .count) × (n ≤ b .budget) × (12 * b .count ≤ length (now out)) × HaveRun (now cost) (s .order) (s .ends) depth ⌝ }
-    ensures { λ r. ⌜ r .openings ≤ b .budget ⌝ }
-    ensures { λ r. ⌜ Answers (trying (given (now (cost .entry)) (now (release .entry)) (now (deadline .entry)) (now (into .entry)) (b .limit) (b .count)) (b .budget) s depth from n) r (now (out .entry)) (now (out .exit)) ⌝ }
+    requires { (b.limit ≤ 48) × (b.count ≤ 48) × (depth < b.count) × (n ≤ b.budget) × (12 * b.count ≤ length out.old) × HaveRun cost.now s.order s.ends depth }
+    ensures openings_le_budget { result.openings ≤ b.budget }
+    ensures answers { Answers (trying (given cost.now release.now deadline.now into.now b.limit b.count) b.budget s depth from n) result out.old out.new }
 {
     let limit = b.limit;
     let free = s.free;
     let mut k = from;
     while k < limit {
         if let Next::Ends(end) = fit::opens_at(
-            cost,
-            release,
-            deadline,
-            &into[k],
-            limit,
-            &s.placed,
-            &s.ends,
-            free,
-            k,
+            cost, release, deadline, &into[k], limit, &s.placed, &s.ends, free, k,
         ) {
             let t = place(s, k, end, depth);
             let r = open(cost, release, deadline, into, b, t, depth + 1, n, out);

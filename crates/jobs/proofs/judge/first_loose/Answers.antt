@@ -1,0 +1,48 @@
+-- `jobs::judge::first_loose` meets its contract. The loop's invariant: the first record at fault is that from place i on.
+-- Each record that is read is the next of the table's, and none is unreadable. Assumes nothing.
+use native.Mathlib.Omega.{arith}
+use mathlib.Core.Path.{◌≡◌, refl, ◌∙◌, sym, ap}
+use borrow.Author.Rules.{rules}
+use Rattle.laws.proofs.Walking.{Next, fault_step}
+use Rattle.jobs.specs.Judge.{loose_link, fault5}
+use Rattle.jobs.specs.Call.{job_table}
+use Rattle.jobs.specs.declared.Jobs.{Jobs}
+use Rattle.jobs.proofs.Records.{next_job, always_read, length_table, fault_found, fault_nothing}
+use Rattle.jobs.proofs.judge.first_loose.Goals as goal
+
+pub loop-i-init : goal.loop-i-init
+loop-i-init c = (search rules, refl)
+
+pub read_job-requires : goal.read_job-requires
+read_job-requires c = omega (arith, c.requires)
+
+pub returns-in_default : goal.returns-in_default
+returns-in_default c =
+    absurd
+    (always_read c.args.s.now c.args.n c.requires.s_len.0 c.requires.s_len.1 c.loop-i.i c.loop-i-test.true
+    c.read_job.ensures c.in_default.is)
+
+pub returns-then-loose_link : goal.returns-then-loose_link
+unfolding fault5
+returns-then-loose_link c =
+    let next : Next (job_table c.args.s.now) c.loop-i.i c.in-Record.r = next_job c.args.s.now c.args.n c.requires.s_len.0 c.requires.s_len.1 c.loop-i.i c.loop-i-test.true
+    c.read_job.ensures c.in-Record.is in
+    let judged : c.loose_link.result ≡ loose_link (job_table c.args.s.now) c.in-Record.r = c.loose_link.ensures (job_table c.args.s.now) c.requires.s_value.0 (ap (λ (jobs : Jobs). jobs.present) c.requires.s_value.1) in
+    fault_found (λ before r. loose_link (job_table c.args.s.now) r) (job_table c.args.s.now) c.loop-i.i next
+    (sym judged ∙ c.if-loose_link.true) c.loop-i.invariant.1
+
+pub loop-i-preserved : goal.loop-i-preserved
+loop-i-preserved c =
+    let next : Next (job_table c.args.s.now) c.loop-i.i c.in-Record.r = next_job c.args.s.now c.args.n c.requires.s_len.0 c.requires.s_len.1 c.loop-i.i c.loop-i-test.true
+    c.read_job.ensures c.in-Record.is in
+    let judged : c.loose_link.result ≡ loose_link (job_table c.args.s.now) c.in-Record.r = c.loose_link.ensures (job_table c.args.s.now) c.requires.s_value.0 (ap (λ (jobs : Jobs). jobs.present) c.requires.s_value.1) in (
+      search rules,
+      fault_step (λ before r. loose_link (job_table c.args.s.now) r) (job_table c.args.s.now) c.loop-i.i next
+          (sym judged ∙ c.if-loose_link.false) c.loop-i.invariant.1,
+    )
+
+pub returns : goal.returns
+unfolding fault5
+returns c =
+    let end = length_table c.args.s.now c.args.n c.requires.s_len.0 c.requires.s_len.1 in
+    fault_nothing (λ before r. loose_link (job_table c.args.s.now) r) (job_table c.args.s.now) c.loop-i.i (omega (arith, c.loop-i-test.false)) c.loop-i.invariant.1

@@ -1,0 +1,14 @@
+use Prim.Native.Nat.{◌≤◌, ◌-◌, min}
+use mathlib.Core.Path.{◌≡◌}
+use mathlib.Core.List.{[], map}
+use lib.ListN.{length, get_or}
+use Rattle.laws.proofs.Filling.{Filled}
+use Rattle.normal.specs.Gaps.{weight}
+use Rattle.normal.specs.Arrays.{ceiling}
+use Rattle.normal.proofs.gaps.link_square.Given as goal
+
+abbrev pub invariant-loop-i : goal.invariant-loop-i
+invariant-loop-i l = (l.i ≤ 48) × (length l.square ≡ 48) × Filled [] (λ k. map (min ceiling) (map (weight (get_or l.cost k 0)) (get_or l.links k []))) l.i l.square
+
+abbrev pub decreases-loop-i : goal.decreases-loop-i
+decreases-loop-i l = 48 - l.i
