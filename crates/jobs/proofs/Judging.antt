@@ -5,7 +5,7 @@ use native.Mathlib.Omega.{arith}
 use mathlib.Core.Path.{◌≡◌, refl, sym, ◌∙◌}
 use mathlib.Core.Bool.{Bool, true, false, not}
 use mathlib.Core.List.{List, [], Memᴰ}
-use mathlib.Core.Option.{Option, none, some}
+use Rattle.std.specs.Prelude.{Option, None, Some}
 use lib.Dec.{eqb, ltb}
 use lib.ListN.{length, get_or}
 use borrow.Author.Tests.{lt-ltb, le-ltb, ltb-false, eqb-true, eq-eqb, ne_eqb, not-false}
@@ -43,7 +43,7 @@ good_alone before (L l) e = refl
 pub good_number : (j : Job) → bad_number [] (J j) ≡ false → j.number < 48
 good_number j e = omega (arith, ltb-false 47 j.number (or_false (ltb 47 j.number) false e).0)
 
-module _ (l : Link) (table : List JobRecord) (three : fault3 table ≡ none) where
+module _ (l : Link) (table : List JobRecord) (three : fault3 table ≡ None) where
   -- the mark of a number says whether the table has a job with it
   known : (n : ℕ) {t : Bool} → t ≡ get_or (jobs_of table).present n false → any (is_job n) table ≡ t
   known n m = sym (m ∙ present_any table three n)
@@ -67,14 +67,14 @@ refuse_zero n true e = absurd (omega arith)
 refuse_zero n false e = (refl, e)
 
 -- where nothing is found, there is nothing
-found_false : (o : Option ℕ) → found o ≡ false → o ≡ none
-found_false none e = refl
-found_false (some x) e = absurd (true_not_false refl e)
+found_false : (o : Option ℕ) → found o ≡ false → o ≡ None
+found_false None e = refl
+found_false (Some x) e = absurd (true_not_false refl e)
 
 -- what a table is of which none of 1 to 5 holds
 pub record Accepted (bytes : List ℕ) : Type 0 where
   pub one : bad_length bytes ≡ false
-  pub two : unreadable (read_all in_jobs bytes) ≡ none
+  pub two : unreadable (read_all in_jobs bytes) ≡ None
   pub sound : Sound (job_table bytes)
 
 -- such is a table that is given 0
@@ -121,29 +121,29 @@ module _ (bytes : List ℕ) (answer : Judged) where
 
   module _ (one : bad_length bytes ≡ false) where
     -- 2, where 1 does not hold
-    pub two_right : {place : ℕ} → unreadable (read_all in_jobs bytes) ≡ some place → answer.number ≡ 2 → JudgedAs bytes answer
+    pub two_right : {place : ℕ} → unreadable (read_all in_jobs bytes) ≡ Some place → answer.number ≡ 2 → JudgedAs bytes answer
     unfolding jobs_number
     two_right two e = refused_right 1 e (rw (one, two))
 
-    module _ (two : unreadable (read_all in_jobs bytes) ≡ none) where
+    module _ (two : unreadable (read_all in_jobs bytes) ≡ None) where
       -- 3, where no lower number holds
-      pub three_right : {place : ℕ} → fault3 (job_table bytes) ≡ some place → answer.number ≡ 3 → JudgedAs bytes answer
+      pub three_right : {place : ℕ} → fault3 (job_table bytes) ≡ Some place → answer.number ≡ 3 → JudgedAs bytes answer
       unfolding jobs_number
       three_right three e = refused_right 2 e (rw (one, two, three))
 
-      module _ (three : fault3 (job_table bytes) ≡ none) where
+      module _ (three : fault3 (job_table bytes) ≡ None) where
         -- 4, where no lower number holds
-        pub four_right : {place : ℕ} → fault4 (job_table bytes) ≡ some place → answer.number ≡ 4 → JudgedAs bytes answer
+        pub four_right : {place : ℕ} → fault4 (job_table bytes) ≡ Some place → answer.number ≡ 4 → JudgedAs bytes answer
         unfolding jobs_number
         four_right four e = refused_right 3 e (rw (one, two, three, four))
 
-        module _ (four : fault4 (job_table bytes) ≡ none) where
+        module _ (four : fault4 (job_table bytes) ≡ None) where
           -- 5, where no lower number holds
-          pub five_right : {place : ℕ} → fault5 (job_table bytes) ≡ some place → answer.number ≡ 5 → JudgedAs bytes answer
+          pub five_right : {place : ℕ} → fault5 (job_table bytes) ≡ Some place → answer.number ≡ 5 → JudgedAs bytes answer
           unfolding jobs_number
           five_right five e = refused_right 4 e (rw (one, two, three, four, five))
 
           -- 0 and the table's jobs, where none holds
-          pub none_right : fault5 (job_table bytes) ≡ none → answer.number ≡ 0 → answer.jobs ≡ jobs_of (job_table bytes) → JudgedAs bytes answer
+          pub none_right : fault5 (job_table bytes) ≡ None → answer.number ≡ 0 → answer.jobs ≡ jobs_of (job_table bytes) → JudgedAs bytes answer
           unfolding jobs_number
           none_right five e jobs = record { number = e ∙ sym (rw (one, two, three, four, five)); jobs = λ z. jobs }

@@ -5,7 +5,7 @@ use native.Mathlib.Omega.{arith}
 use mathlib.Core.Path.{◌≡◌, refl, sym, ap}
 use mathlib.Core.Bool.{Bool, true}
 use mathlib.Core.List.{List, []}
-use mathlib.Core.Option.{Option, none, some}
+use Rattle.std.specs.Prelude.{Option, None, Some}
 use lib.ListN.{length}
 use Rattle.laws.specs.Lists.{first_fault}
 use Rattle.laws.proofs.Walking.{Next, behind, FaultFrom, fault_here, fault_end}
@@ -20,14 +20,14 @@ use Rattle.records.proofs.Reading.{UnreadableFrom, unreadable_step, unreadable_h
 use Rattle.jobs.specs.Call.{job_table}
 
 -- a record that the reader answers is what is read
-read_some : (o : Option JobRecord) {answer : JobRead} {r : JobRecord} → answer ≡ job_read o → answer ≡ Record r → o ≡ some r
-read_some none e f = let z : ◌≡◌ {A = ℕ} 0 1 = cc in absurd (omega arith)
-read_some (some r) e f = cc
+read_some : (o : Option JobRecord) {answer : JobRead} {r : JobRecord} → answer ≡ job_read o → answer ≡ Record r → o ≡ Some r
+read_some None e f = let z : ◌≡◌ {A = ℕ} 0 1 = cc in absurd (omega arith)
+read_some (Some r) e f = cc
 
 -- where it answers none, none is read
-read_none : (o : Option JobRecord) {answer : JobRead} → answer ≡ job_read o → answer ≡ Unreadable → o ≡ none
-read_none none e f = refl
-read_none (some r) e f = let z : ◌≡◌ {A = ℕ} 0 1 = cc in absurd (omega arith)
+read_none : (o : Option JobRecord) {answer : JobRead} → answer ≡ job_read o → answer ≡ Unreadable → o ≡ None
+read_none None e f = refl
+read_none (Some r) e f = let z : ◌≡◌ {A = ℕ} 0 1 = cc in absurd (omega arith)
 
 module _ (bytes : List ℕ) (n : ℕ) (whole : length bytes ≡ 12 * n) where
   -- 2: a record that is answered is passed
@@ -44,7 +44,7 @@ module _ (bytes : List ℕ) (n : ℕ) (whole : length bytes ≡ 12 * n) where
   pub unreadable_nothing : (i : ℕ) → n ≤ i → UnreadableFrom in_jobs bytes i → Nothing ≡ as_found (unreadable (read_all in_jobs bytes))
   unreadable_nothing i h from = sym (ap as_found (unreadable_end in_jobs bytes n whole i h from))
 
-  module _ (all_read : unreadable (read_all in_jobs bytes) ≡ none) where
+  module _ (all_read : unreadable (read_all in_jobs bytes) ≡ None) where
     -- where all records can be read, the one that is answered is the next of the table
     pub next_job : (i : ℕ) {answer : JobRead} {r : JobRecord} → i < n → answer ≡ job_read (in_jobs (record_at bytes i)) → answer ≡ Record r → Next (job_table bytes) i r
     unfolding job_table
@@ -69,6 +69,6 @@ module _ (bad : List JobRecord → JobRecord → Bool) (table : List JobRecord) 
   fault_nothing i h from = sym (ap as_found (fault_end bad table i h from))
 
 -- where a record is found, there is one
-pub found_refutes : (o : Option ℕ) {place : ℕ} → At place ≡ as_found o → o ≡ none → ⊥
-found_refutes none e f = let z : ◌≡◌ {A = ℕ} 0 1 = cc in omega arith
-found_refutes (some place) e f = let z : ◌≡◌ {A = ℕ} 0 1 = cc in omega arith
+pub found_refutes : (o : Option ℕ) {place : ℕ} → At place ≡ as_found o → o ≡ None → ⊥
+found_refutes None e f = let z : ◌≡◌ {A = ℕ} 0 1 = cc in omega arith
+found_refutes (Some place) e f = let z : ◌≡◌ {A = ℕ} 0 1 = cc in omega arith

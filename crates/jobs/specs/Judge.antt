@@ -1,6 +1,5 @@
 -- Refusals 3 to 5 of a job table, each as the first record at fault. They are judged once all records have been read.
-use Rattle.std.specs.Prelude.{ℕ, Bool, false, not, ◌||◌, List, [], ◌≡◌, eqb, ltb}
-use Rattle.std.proofs.Math.Option.{Option, none}
+use Rattle.std.specs.Prelude.{ℕ, Bool, false, not, ◌||◌, List, [], ◌≡◌, eqb, ltb, Option, None}
 use Rattle.laws.specs.Lists.{any, first_fault}
 use Rattle.records.specs.declared.JobRecord.{JobRecord}
 use Rattle.records.specs.declared.JobRecord.TheVariants.{J, L}
@@ -39,6 +38,6 @@ fault5 table = first_fault (λ before r. loose_link table r) [] 0 table
 
 -- a job table within the limits: none of 3, 4 and 5 holds of it
 pub record Sound (table : List JobRecord) : Type 0 where
-  pub three : fault3 table ≡ none
-  pub four : fault4 table ≡ none
-  pub five : fault5 table ≡ none
+  pub three : fault3 table ≡ None
+  pub four : fault4 table ≡ None
+  pub five : fault5 table ≡ None

@@ -1,7 +1,6 @@
 // Judging a job table: the lowest of 1 to 5 that holds, and its jobs where none does.
 // 2 is looked for first; in the loops after it the else branch of a read is proved never to be taken.
-ghost use Rattle.std.specs.Prelude.{◌≡◌, List, ◌*◌, length};
-ghost use Rattle.std.proofs.Math.Option.{none};
+ghost use Rattle.std.specs.Prelude.{◌≡◌, List, ◌*◌, length, None};
 ghost use Rattle.records.specs.declared.JobRecord.{JobRecord};
 ghost use Rattle.records.specs.declared.JobRecord.TheVariants.{J, L};
 ghost use Rattle.records.specs.Record.{in_jobs};
@@ -53,7 +52,7 @@ fn bad_value(r: JobRecord) -> bool
 
 // 4: the first such record.
 fn first_bad_value(s: &[u8], n: usize) -> Found
-    requires { (length s.now ≡ 12 * n) × (unreadable (read_all in_jobs s.now) ≡ none) }
+    requires { (length s.now ≡ 12 * n) × (unreadable (read_all in_jobs s.now) ≡ None) }
     ensures { result ≡ as_found (fault4 (job_table s.now)) }
 {
     let mut i: usize = 0;
@@ -71,7 +70,7 @@ fn first_bad_value(s: &[u8], n: usize) -> Found
 
 // 5: a link that names itself, or a job not in the table.
 fn loose_ends(present: &[bool; 48], l: Link) -> bool
-    ensures { (table : List JobRecord) → fault3 table ≡ none → present.now ≡ (jobs_of table).present → result ≡ loose_link table (L l) }
+    ensures { (table : List JobRecord) → fault3 table ≡ None → present.now ≡ (jobs_of table).present → result ≡ loose_link table (L l) }
 {
     if l.from == l.to {
         return true;
@@ -84,7 +83,7 @@ fn loose_ends(present: &[bool; 48], l: Link) -> bool
 
 // 5: the record is such a link.
 fn loose_link(present: &[bool; 48], r: JobRecord) -> bool
-    ensures { (table : List JobRecord) → fault3 table ≡ none → present.now ≡ (jobs_of table).present → result ≡ loose_link table r }
+    ensures { (table : List JobRecord) → fault3 table ≡ None → present.now ≡ (jobs_of table).present → result ≡ loose_link table r }
 {
     match r {
         JobRecord::J(_) => false,
@@ -94,8 +93,8 @@ fn loose_link(present: &[bool; 48], r: JobRecord) -> bool
 
 // 5: the first such record.
 fn first_loose(s: &[u8], n: usize, jobs: Jobs) -> Found
-    requires s_len { (length s.now ≡ 12 * n) × (unreadable (read_all in_jobs s.now) ≡ none) }
-    requires s_value { (fault3 (job_table s.now) ≡ none) × (jobs ≡ jobs_of (job_table s.now)) }
+    requires s_len { (length s.now ≡ 12 * n) × (unreadable (read_all in_jobs s.now) ≡ None) }
+    requires s_value { (fault3 (job_table s.now) ≡ None) × (jobs ≡ jobs_of (job_table s.now)) }
     ensures { result ≡ as_found (fault5 (job_table s.now)) }
 {
     let mut i: usize = 0;

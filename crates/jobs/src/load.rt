@@ -1,7 +1,6 @@
 // The jobs of a table in arrays by number, and its links in a square.
 // Where all records are known to be readable, the else branch of a read is proved never to be taken.
-ghost use Rattle.std.specs.Prelude.{◌≡◌, List, [], ◌∷◌, false, ◌+◌, ◌*◌, ◌<◌, max, length, get_or, set};
-ghost use Rattle.std.proofs.Math.Option.{none};
+ghost use Rattle.std.specs.Prelude.{◌≡◌, List, [], ◌∷◌, false, ◌+◌, ◌*◌, ◌<◌, max, length, get_or, set, None};
 ghost use Rattle.records.specs.declared.JobRecord.{JobRecord};
 ghost use Rattle.records.specs.declared.JobRecord.TheVariants.{J, L};
 ghost use Rattle.records.specs.Record.{in_jobs};
@@ -77,9 +76,9 @@ fn with_job(jobs: Jobs, j: Job) -> Jobs
 
 // The jobs of all records, or the first at fault by 3.
 pub(crate) fn load_jobs(s: &[u8], n: usize) -> Loaded
-    requires { (length s.now ≡ 12 * n) × (unreadable (read_all in_jobs s.now) ≡ none) }
+    requires { (length s.now ≡ 12 * n) × (unreadable (read_all in_jobs s.now) ≡ None) }
     ensures fault_value { result.fault ≡ as_found (fault3 (job_table s.now)) }
-    ensures jobs_value { fault3 (job_table s.now) ≡ none → result.jobs ≡ jobs_of (job_table s.now) }
+    ensures jobs_value { fault3 (job_table s.now) ≡ None → result.jobs ≡ jobs_of (job_table s.now) }
 {
     let mut jobs = no_jobs();
     let mut i: usize = 0;

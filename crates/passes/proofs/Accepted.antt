@@ -3,7 +3,7 @@
 use Prim.Native.Nat.{ℕ, ◌*◌, ◌/◌, ◌≤◌}
 use mathlib.Core.Path.{◌≡◌, ap, ◌∙◌}
 use mathlib.Core.List.{List, Memᴰ}
-use mathlib.Core.Option.{none}
+use Rattle.std.specs.Prelude.{None}
 use lib.ListN.{length}
 use Rattle.laws.specs.Lists.{flat}
 use Rattle.records.specs.Record.{in_passes}
@@ -28,7 +28,7 @@ module _ (bytes : List ℕ) {passes : Passes} {cycle : ℕ} (ok : Accepted bytes
   pub whole_table : (length bytes ≡ 12 * (length bytes / 12)) × (length bytes ≤ 49152)
   whole_table = whole_records bytes within.one
 
-  pub all_read : unreadable (read_all in_passes bytes) ≡ none
+  pub all_read : unreadable (read_all in_passes bytes) ≡ None
   all_read = within.two
 
   -- its passes' windows lie within their periods

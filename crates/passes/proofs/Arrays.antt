@@ -5,7 +5,7 @@ use native.Mathlib.Omega.{arith}
 use mathlib.Core.Path.{◌≡◌, refl, sym, ap, ◌∙◌, fun_ext}
 use mathlib.Core.Bool.{Bool, true, false, cond, ◌||◌}
 use mathlib.Core.List.{List, [], ◌∷◌, map, reverse, reverse_aux}
-use mathlib.Core.Option.{none}
+use Rattle.std.specs.Prelude.{None}
 use lib.Dec.{eqb, ltb}
 use lib.ListN.{length, get_or, set, get_or-eq_default}
 use borrow.Author.Tests.{ltb-true, ltb-false, eqb-true, eq-eqb, ne_eqb}
@@ -31,7 +31,7 @@ unfolding passes_of
 present_above table n h = get_or-eq_default (map (λ n. any (is_pass n) table) (count 0 24)) false {n = n} (omega (arith, length_row (λ n. any (is_pass n) table) 0 24))
 
 -- where 3 does not hold, no pass has a number from 24 on
-none_above : (table : List PassRecord) → fault3 table ≡ none → (n : ℕ) → 24 ≤ n → any (is_pass n) table ≡ false
+none_above : (table : List PassRecord) → fault3 table ≡ None → (n : ℕ) → 24 ≤ n → any (is_pass n) table ≡ false
 unfolding fault3
 none_above table e n h = not_true_false (any (is_pass n) table) (λ some-pass.
     let r = any_pass table n some-pass in
@@ -39,7 +39,7 @@ none_above table e n h = not_true_false (any (is_pass n) table) (λ some-pass.
     omega (arith, r.2))
 
 -- so the marks then say of every number whether the table has a pass with it
-pub present_any : (table : List PassRecord) → fault3 table ≡ none → (n : ℕ) → get_or (passes_of table).present n false ≡ any (is_pass n) table
+pub present_any : (table : List PassRecord) → fault3 table ≡ None → (n : ℕ) → get_or (passes_of table).present n false ≡ any (is_pass n) table
 present_any table e n = step (ltb n 24) refl
   where
     step : (t : Bool) → ltb n 24 ≡ t → get_or (passes_of table).present n false ≡ any (is_pass n) table
@@ -119,7 +119,7 @@ value_reverse value table h n = go table [] h
     go (F f ∷ table) before h = go table (F f ∷ before) h.1
 
 -- so a table that 3 does not refuse has the same passes in reversed order
-passes_reverse : (table : List PassRecord) → fault3 table ≡ none → passes_of (reverse table) ≡ passes_of table
+passes_reverse : (table : List PassRecord) → fault3 table ≡ None → passes_of (reverse table) ≡ passes_of table
 unfolding passes_of fault3
 passes_reverse table e = same_passes
     (ap (λ (f : ℕ → Bool). map f (count 0 24)) (fun_ext (λ n. any_reverse (is_pass n) table)))
@@ -132,5 +132,5 @@ passes_reverse table e = same_passes
     reversed value = ap (λ (f : ℕ → ℕ). map f (count 0 24)) (fun_ext (value_reverse value table ((first_fault_none bad_number [] 0 table).0 e)))
 
 -- and once all of it is passed, what was filled are its passes
-pub passes_passed : (table : List PassRecord) (i : ℕ) → length table ≤ i → fault3 table ≡ none → passes_of (behind i table) ≡ passes_of table
+pub passes_passed : (table : List PassRecord) (i : ℕ) → length table ≤ i → fault3 table ≡ None → passes_of (behind i table) ≡ passes_of table
 passes_passed table i h three = ap passes_of (behind_all table i h) ∙ passes_reverse table three

@@ -5,7 +5,7 @@ use native.Mathlib.Omega.{arith}
 use mathlib.Core.Path.{◌≡◌, refl, sym, ap, ◌∙◌}
 use mathlib.Core.Bool.{Bool, true, false, not, ◌||◌}
 use mathlib.Core.List.{List, []}
-use mathlib.Core.Option.{none, some}
+use Rattle.std.specs.Prelude.{None, Some}
 use lib.Dec.{ltb}
 use lib.ListN.{length, get_or}
 use borrow.Author.Tests.{lt-ltb, le-ltb, ltb-false, eq-eqb, ne_eqb}
@@ -46,7 +46,7 @@ good_alone before (F f) e = refl
 pub good_number : (p : Pass) → bad_number [] (P p) ≡ false → p.number < 24
 good_number p e = omega (arith, ltb-false 23 p.number (or_false (ltb 23 p.number) false e).0)
 
-module _ (f : Flow) (table : List PassRecord) (three : fault3 table ≡ none) where
+module _ (f : Flow) (table : List PassRecord) (three : fault3 table ≡ None) where
   -- the mark of a number says whether the table has a pass with it
   known : (n : ℕ) {t : Bool} → t ≡ get_or (passes_of table).present n false → any (is_pass n) table ≡ t
   known n m = sym (m ∙ present_any table three n)
@@ -67,7 +67,7 @@ module _ (f : Flow) (table : List PassRecord) (three : fault3 table ≡ none) wh
 -- what a table is of which none of 1 to 6 holds
 pub record Within (bytes : List ℕ) : Type 0 where
   pub one : bad_length bytes ≡ false
-  pub two : unreadable (read_all in_passes bytes) ≡ none
+  pub two : unreadable (read_all in_passes bytes) ≡ None
   pub sound : Sound (pass_table bytes)
   pub ticks : cycle_of (pass_table bytes) ≤ 48000
   pub jobs : job_count (cycle_of (pass_table bytes)) (passes_in_order (pass_table bytes)) ≤ 48
@@ -168,29 +168,29 @@ module _ (bytes : List ℕ) (answer : Judged) where
 
   module _ (one : bad_length bytes ≡ false) where
     -- 2, where 1 does not hold
-    pub two_right : {place : ℕ} → unreadable (read_all in_passes bytes) ≡ some place → answer.number ≡ 2 → JudgedAs bytes answer
+    pub two_right : {place : ℕ} → unreadable (read_all in_passes bytes) ≡ Some place → answer.number ≡ 2 → JudgedAs bytes answer
     unfolding passes_number
     two_right two e = refused_right 1 e (rw (one, two))
 
-    module _ (two : unreadable (read_all in_passes bytes) ≡ none) where
+    module _ (two : unreadable (read_all in_passes bytes) ≡ None) where
       -- 3, where no lower number holds
-      pub three_right : {place : ℕ} → fault3 (pass_table bytes) ≡ some place → answer.number ≡ 3 → JudgedAs bytes answer
+      pub three_right : {place : ℕ} → fault3 (pass_table bytes) ≡ Some place → answer.number ≡ 3 → JudgedAs bytes answer
       unfolding passes_number
       three_right three e = refused_right 2 e (rw (one, two, three))
 
-      module _ (three : fault3 (pass_table bytes) ≡ none) where
+      module _ (three : fault3 (pass_table bytes) ≡ None) where
         -- 4, where no lower number holds
-        pub four_right : {place : ℕ} → fault4 (pass_table bytes) ≡ some place → answer.number ≡ 4 → JudgedAs bytes answer
+        pub four_right : {place : ℕ} → fault4 (pass_table bytes) ≡ Some place → answer.number ≡ 4 → JudgedAs bytes answer
         unfolding passes_number
         four_right four e = refused_right 3 e (rw (one, two, three, four))
 
-        module _ (four : fault4 (pass_table bytes) ≡ none) where
+        module _ (four : fault4 (pass_table bytes) ≡ None) where
           -- 5, where no lower number holds
-          pub five_right : {place : ℕ} → fault5 (pass_table bytes) ≡ some place → answer.number ≡ 5 → JudgedAs bytes answer
+          pub five_right : {place : ℕ} → fault5 (pass_table bytes) ≡ Some place → answer.number ≡ 5 → JudgedAs bytes answer
           unfolding passes_number
           five_right five e = refused_right 4 e (rw (one, two, three, four, five))
 
-  module _ (one : bad_length bytes ≡ false) (two : unreadable (read_all in_passes bytes) ≡ none) (sound : Sound (pass_table bytes)) where
+  module _ (one : bad_length bytes ≡ false) (two : unreadable (read_all in_passes bytes) ≡ None) (sound : Sound (pass_table bytes)) where
     -- 6, where no lower number holds
     pub six_right : too_large (pass_table bytes) ≡ true → answer.number ≡ 6 → JudgedAs bytes answer
     unfolding passes_number

@@ -4,7 +4,7 @@ use Prim.Native.Nat.{ℕ, ◌+◌, ◌*◌, ◌<◌, ◌≤◌}
 use native.Mathlib.Omega.{arith}
 use mathlib.Core.Path.{◌≡◌, refl, sym, ap}
 use mathlib.Core.List.{List}
-use mathlib.Core.Option.{Option, none, some}
+use Rattle.std.specs.Prelude.{Option, None, Some}
 use lib.ListN.{length}
 use Rattle.laws.proofs.Walking.{Next}
 use Rattle.records.specs.Bytes.{record_at}
@@ -18,14 +18,14 @@ use Rattle.records.proofs.Reading.{UnreadableFrom, unreadable_step, unreadable_h
 use Rattle.passes.specs.Call.{pass_table}
 
 -- a record that the reader answers is what is read
-read_some : (o : Option PassRecord) {answer : PassRead} {r : PassRecord} → answer ≡ pass_read o → answer ≡ Record r → o ≡ some r
-read_some none e f = let z : ◌≡◌ {A = ℕ} 0 1 = cc in absurd (omega arith)
-read_some (some r) e f = cc
+read_some : (o : Option PassRecord) {answer : PassRead} {r : PassRecord} → answer ≡ pass_read o → answer ≡ Record r → o ≡ Some r
+read_some None e f = let z : ◌≡◌ {A = ℕ} 0 1 = cc in absurd (omega arith)
+read_some (Some r) e f = cc
 
 -- where it answers none, none is read
-read_none : (o : Option PassRecord) {answer : PassRead} → answer ≡ pass_read o → answer ≡ Unreadable → o ≡ none
-read_none none e f = refl
-read_none (some r) e f = let z : ◌≡◌ {A = ℕ} 0 1 = cc in absurd (omega arith)
+read_none : (o : Option PassRecord) {answer : PassRead} → answer ≡ pass_read o → answer ≡ Unreadable → o ≡ None
+read_none None e f = refl
+read_none (Some r) e f = let z : ◌≡◌ {A = ℕ} 0 1 = cc in absurd (omega arith)
 
 module _ (bytes : List ℕ) (n : ℕ) (whole : length bytes ≡ 12 * n) where
   -- 2: a record that is answered is passed
@@ -42,7 +42,7 @@ module _ (bytes : List ℕ) (n : ℕ) (whole : length bytes ≡ 12 * n) where
   pub unreadable_nothing : (i : ℕ) → n ≤ i → UnreadableFrom in_passes bytes i → Nothing ≡ as_found (unreadable (read_all in_passes bytes))
   unreadable_nothing i h from = sym (ap as_found (unreadable_end in_passes bytes n whole i h from))
 
-  module _ (all_read : unreadable (read_all in_passes bytes) ≡ none) where
+  module _ (all_read : unreadable (read_all in_passes bytes) ≡ None) where
     -- where all records can be read, the one that is answered is the next of the table
     pub next_pass : (i : ℕ) {answer : PassRead} {r : PassRecord} → i < n → answer ≡ pass_read (in_passes (record_at bytes i)) → answer ≡ Record r → Next (pass_table bytes) i r
     unfolding pass_table

@@ -1,6 +1,5 @@
 -- Refusals 3 to 5 of a pass table, each as the first record at fault. They are judged once all records have been read.
-use Rattle.std.specs.Prelude.{ℕ, ◌+◌, Bool, false, not, ◌||◌, List, [], eqb, ltb}
-use Rattle.std.proofs.Math.Option.{Option}
+use Rattle.std.specs.Prelude.{ℕ, ◌+◌, Bool, false, not, ◌||◌, List, [], eqb, ltb, Option}
 use Rattle.laws.specs.Lists.{any, first_fault}
 use Rattle.records.specs.declared.PassRecord.{PassRecord}
 use Rattle.records.specs.declared.PassRecord.TheVariants.{P, F}

@@ -1,6 +1,5 @@
 // Judging a pass table: the lowest of 1 to 6 that holds, and its passes, its cycle and how many jobs it has where none does.
-ghost use Rattle.std.specs.Prelude.{◌≡◌, List, [], ◌∷◌, ◌*◌, ◌≤◌, length};
-ghost use Rattle.std.proofs.Math.Option.{none};
+ghost use Rattle.std.specs.Prelude.{◌≡◌, List, [], ◌∷◌, ◌*◌, ◌≤◌, length, None};
 ghost use Rattle.records.specs.declared.PassRecord.{PassRecord};
 ghost use Rattle.records.specs.declared.PassRecord.TheVariants.{P, F};
 ghost use Rattle.records.specs.Record.{in_passes};
@@ -57,7 +56,7 @@ fn bad_value(r: PassRecord) -> bool
 
 // 4: the first such record.
 fn first_bad_value(s: &[u8], n: usize) -> Found
-    requires { (length s.now ≡ 12 * n) × (unreadable (read_all in_passes s.now) ≡ none) }
+    requires { (length s.now ≡ 12 * n) × (unreadable (read_all in_passes s.now) ≡ None) }
     ensures { result ≡ as_found (fault4 (pass_table s.now)) }
 {
     let mut i: usize = 0;
@@ -75,7 +74,7 @@ fn first_bad_value(s: &[u8], n: usize) -> Found
 
 // 5: a flow that names itself, or a pass not in the table.
 fn loose_ends(present: &[bool; 24], f: Flow) -> bool
-    ensures { (table : List PassRecord) → fault3 table ≡ none → present.now ≡ (passes_of table).present → result ≡ loose_flow table (F f) }
+    ensures { (table : List PassRecord) → fault3 table ≡ None → present.now ≡ (passes_of table).present → result ≡ loose_flow table (F f) }
 {
     if f.source == f.target {
         return true;
@@ -88,7 +87,7 @@ fn loose_ends(present: &[bool; 24], f: Flow) -> bool
 
 // 5: the record is such a flow.
 fn loose_flow(present: &[bool; 24], r: PassRecord) -> bool
-    ensures { (table : List PassRecord) → fault3 table ≡ none → present.now ≡ (passes_of table).present → result ≡ loose_flow table r }
+    ensures { (table : List PassRecord) → fault3 table ≡ None → present.now ≡ (passes_of table).present → result ≡ loose_flow table r }
 {
     match r {
         PassRecord::P(_) => false,
@@ -98,8 +97,8 @@ fn loose_flow(present: &[bool; 24], r: PassRecord) -> bool
 
 // 5: the first such record.
 fn first_loose(s: &[u8], n: usize, passes: Passes) -> Found
-    requires s_len { (length s.now ≡ 12 * n) × (unreadable (read_all in_passes s.now) ≡ none) }
-    requires s_value { (fault3 (pass_table s.now) ≡ none) × (passes ≡ passes_of (pass_table s.now)) }
+    requires s_len { (length s.now ≡ 12 * n) × (unreadable (read_all in_passes s.now) ≡ None) }
+    requires s_value { (fault3 (pass_table s.now) ≡ None) × (passes ≡ passes_of (pass_table s.now)) }
     ensures { result ≡ as_found (fault5 (pass_table s.now)) }
 {
     let mut i: usize = 0;
@@ -127,7 +126,7 @@ fn one_flow(r: PassRecord) -> usize
 
 // How many F records there are, repeats counted.
 fn count_flows(s: &[u8], n: usize) -> usize
-    requires { (length s.now ≡ 12 * n) × (unreadable (read_all in_passes s.now) ≡ none) }
+    requires { (length s.now ≡ 12 * n) × (unreadable (read_all in_passes s.now) ≡ None) }
     ensures { result ≡ length (flows_of (pass_table s.now)) }
 {
     let mut flows: usize = 0;

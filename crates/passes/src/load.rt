@@ -1,6 +1,5 @@
 // The passes of a table in arrays by number.
-ghost use Rattle.std.specs.Prelude.{◌≡◌, List, [], ◌∷◌, false, ◌*◌, ◌<◌, length, get_or};
-ghost use Rattle.std.proofs.Math.Option.{none};
+ghost use Rattle.std.specs.Prelude.{◌≡◌, List, [], ◌∷◌, false, ◌*◌, ◌<◌, length, get_or, None};
 ghost use Rattle.records.specs.declared.PassRecord.{PassRecord};
 ghost use Rattle.records.specs.declared.PassRecord.TheVariants.{P, F};
 ghost use Rattle.records.specs.Record.{in_passes};
@@ -78,9 +77,9 @@ fn with_pass(passes: Passes, p: Pass) -> Passes
 
 // The passes of all records, or the first at fault by 3.
 pub(crate) fn load_passes(s: &[u8], n: usize) -> Loaded
-    requires { (length s.now ≡ 12 * n) × (unreadable (read_all in_passes s.now) ≡ none) }
+    requires { (length s.now ≡ 12 * n) × (unreadable (read_all in_passes s.now) ≡ None) }
     ensures fault_value { result.fault ≡ as_found (fault3 (pass_table s.now)) }
-    ensures passes_value { fault3 (pass_table s.now) ≡ none → result.passes ≡ passes_of (pass_table s.now) }
+    ensures passes_value { fault3 (pass_table s.now) ≡ None → result.passes ≡ passes_of (pass_table s.now) }
 {
     let mut passes = no_passes();
     let mut i: usize = 0;

@@ -4,7 +4,7 @@ use native.Mathlib.Omega.{arith}
 use mathlib.Core.Path.{◌≡◌, refl, sym, ap}
 use mathlib.Core.Bool.{Bool, true, false, not}
 use mathlib.Core.List.{List, []}
-use mathlib.Core.Option.{Option, none, some}
+use Rattle.std.specs.Prelude.{Option, None, Some}
 use lib.Dec.{eqb, ltb}
 use lib.ListN.{length}
 use borrow.Author.Tests.{eqb-true, ltb-false, not-false}
@@ -25,14 +25,14 @@ module _ {A : Type 0} (bad : List A → A → Bool) (table : List A) where
   fault_nothing i h from = sym (ap as_found (fault_end bad table i h from))
 
 -- where a record is found, there is one
-pub found_refutes : (o : Option ℕ) {place : ℕ} → At place ≡ as_found o → o ≡ none → ⊥
-found_refutes none e f = let z : ◌≡◌ {A = ℕ} 0 1 = cc in omega arith
-found_refutes (some place) e f = let z : ◌≡◌ {A = ℕ} 0 1 = cc in omega arith
+pub found_refutes : (o : Option ℕ) {place : ℕ} → At place ≡ as_found o → o ≡ None → ⊥
+found_refutes None e f = let z : ◌≡◌ {A = ℕ} 0 1 = cc in omega arith
+found_refutes (Some place) e f = let z : ◌≡◌ {A = ℕ} 0 1 = cc in omega arith
 
 -- where nothing is found, there is nothing
-pub found_false : (o : Option ℕ) → found o ≡ false → o ≡ none
-found_false none e = refl
-found_false (some x) e = absurd (true_not_false refl e)
+pub found_false : (o : Option ℕ) → found o ≡ false → o ≡ None
+found_false None e = refl
+found_false (Some x) e = absurd (true_not_false refl e)
 
 -- a refusal that does not come about leaves what comes after it
 pub refuse_zero : (n : ℕ) (t : Bool) {later : ℕ} → refuse (suc n) t later ≡ 0 → (t ≡ false) × (later ≡ 0)

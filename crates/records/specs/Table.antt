@@ -1,6 +1,5 @@
 -- A table as its records: decoded one after another, and encoded again. `read` says what a record of this kind of table is, and `write` its bytes.
-use Rattle.std.specs.Prelude.{ℕ, zero, suc, ◌+◌, ◌/◌, ◌%◌, Bool, not, ◌||◌, List, [], ◌∷◌, length, eqb, ltb}
-use Rattle.std.proofs.Math.Option.{Option, none, some}
+use Rattle.std.specs.Prelude.{ℕ, zero, suc, ◌+◌, ◌/◌, ◌%◌, Bool, not, ◌||◌, List, [], ◌∷◌, length, eqb, ltb, Option, None, Some}
 use Rattle.laws.specs.Lists.{flat, found, first_fault}
 use Rattle.records.specs.Bytes.{record_at}
 use Rattle.records.specs.declared.table.Found.{Found}
@@ -27,8 +26,8 @@ module _ {A : Type 0} where
   -- the records that could be read
   unfoldable pub readable : List (Option A) → List A
   readable [] = []
-  readable (none ∷ rs) = readable rs
-  readable (some r ∷ rs) = r ∷ readable rs
+  readable (None ∷ rs) = readable rs
+  readable (Some r ∷ rs) = r ∷ readable rs
 
   -- decoding: the records of a table
   unfoldable pub decode : ((ℕ → ℕ) → Option A) → List ℕ → List A
@@ -40,5 +39,5 @@ module _ {A : Type 0} where
 
 -- a place that was looked for, as code answers it
 abbrev pub as_found : Option ℕ → Found
-as_found none = Nothing
-as_found (some place) = At place
+as_found None = Nothing
+as_found (Some place) = At place

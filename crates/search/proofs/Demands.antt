@@ -5,7 +5,7 @@ use native.Mathlib.Omega.{arith}
 use mathlib.Core.Bool.{Bool, true, false}
 use mathlib.Core.Path.{◌≡◌, refl, ap, sym, ◌∙◌}
 use mathlib.Core.Logic.{◌↔◌}
-use mathlib.Core.Option.{Option, none, some}
+use Rattle.std.specs.Prelude.{Option, None, Some}
 use mathlib.Core.List.{List}
 use borrow.Author.Tests.{ltb-true, ltb-false, le-ltb}
 use lib.Dec.{ltb}
@@ -50,9 +50,9 @@ module _ {table : List JobRecord} (normalisable : Normalisable table) (budget : 
       step : (t : Bool) → ltb budget (openings (normal_form table)) ≡ t → (o : Option (List ℕ)) → schedule (normal_form table) ≡ o
           → Comes table budget (elim t [ true ↦ refused 11 budget | false ↦ decided (normal_form table) o (openings (normal_form table)) ])
       step true e o found = spent (ltb-true _ _ e)
-      step false e none found =
+      step false e None found =
           nothing (ltb-false _ _ e) (λ start f. (none_feasible (normal_form table) (normal_sound normalisable)).0 found start ((feasible_same normalisable start).0 f))
-      step false e (some q) found = given (ltb-false _ _ e) (schedule_first (normal_form table) (normal_sound normalisable) q found)
+      step false e (Some q) found = given (ltb-false _ _ e) (schedule_first (normal_form table) (normal_sound normalisable) q found)
 
 -- the normal form of a table's records
 abbrev pub normal_of : List ℕ → List JobRecord

@@ -7,7 +7,7 @@ use native.Mathlib.Omega.{arith}
 use mathlib.Core.Path.{◌≡◌, refl, sym, ap, ◌∙◌}
 use mathlib.Core.Bool.{Bool, true, false, cond}
 use mathlib.Core.List.{List, [], ◌∷◌, ◌++◌, map, map-append, Memᴰ}
-use mathlib.Core.Option.{Option, some}
+use Rattle.std.specs.Prelude.{Option, Some}
 use lib.Dec.{eqb, ltb}
 use lib.ListN.{length}
 use borrow.Author.Tests.{eqb-true, eqb-false, eq-eqb, ne_eqb, ltb-true, ltb-false, lt-ltb, le-ltb}
@@ -116,7 +116,7 @@ module _ (table : List JobRecord) (sound : Sound table) where
     unfolding up_to_full
     up_on e = rw (up_to_full, ne_eqb (length q) jobs e)
 
-    first_full_lem : length q ≡ jobs → first_full jobs (q ∷ qs) ≡ some q
+    first_full_lem : length q ≡ jobs → first_full jobs (q ∷ qs) ≡ Some q
     unfolding first_full
     first_full_lem e = rw (first_full, eq-eqb (length q) jobs e)
 
