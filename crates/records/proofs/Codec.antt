@@ -12,16 +12,12 @@ use lib.Dec.{eqb}
 use lib.ListN.{length, get_or}
 use Rattle.laws.specs.Lists.{Every, count}
 use Rattle.laws.proofs.Lists.{Same, same, all_every, every_weaker, every_count, map_count, Gives, gives_none, gives_some, gives_cond}
-use Rattle.records.specs.Bytes.{Bytes, zeros}
+use Rattle.records.specs.Bytes.{Bytes, zeros, twelve}
 use Rattle.records.specs.Record.{kind, in_passes, in_jobs, in_schedule, read_pass, read_flow, read_job, read_link, read_slot}
 use Rattle.records.specs.Record.{pass_bytes, job_bytes, slot_bytes, PassFits, JobFits, SlotFits}
 use Rattle.records.specs.declared.PassRecord.TheVariants.{P, F}
 use Rattle.records.specs.declared.JobRecord.TheVariants.{J, L}
 use Rattle.records.proofs.Words.{word_pair}
-
--- the twelve bytes that a reader looks at
-abbrev pub twelve : (ℕ → ℕ) → List ℕ
-twelve b = map b (count 0 12)
 
 -- a list of bytes as a reader looks at it
 abbrev pub lookup : List ℕ → ℕ → ℕ

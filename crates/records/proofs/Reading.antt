@@ -11,9 +11,7 @@ use lib.ListN.{length, drop, length-map}
 use Rattle.laws.specs.Lists.{found}
 use Rattle.laws.proofs.Walking.{Next, next_of, FaultFrom, fault_step, fault_here, fault_end}
 use Rattle.records.specs.Bytes.{record_at}
-use Rattle.records.specs.Table.{reads, read_all, unreadable, decode, as_found}
-use Rattle.records.specs.declared.table.Found.{Found}
-use Rattle.records.specs.declared.table.Found.TheVariants.{At, Nothing}
+use Rattle.records.specs.Table.{reads, read_all, unreadable, decode}
 use Rattle.records.proofs.Tables.{unreadable_none}
 
 module _ {A : Type 0} where
@@ -98,13 +96,3 @@ module _ {A : Type 0} (read : (ℕ → ℕ) → Option A) (bytes : List ℕ) whe
       -- the record read at place i is the next of the table's records
       pub next_record : (i : ℕ) {r : A} → i < n → read (record_at bytes i) ≡ Some r → Next (decode read bytes) i r
       next_record i {r} h e = next_of (decode read bytes) i (some_first (drop i (decode read bytes)) (rw e at (decoded_from i h))).1
-
--- a place that code found is the place that was looked for
-pub found_at : (o : Option ℕ) {answer : Found} {place : ℕ} → answer ≡ as_found o → answer ≡ At place → o ≡ Some place
-found_at None e f = let z : ◌≡◌ {A = ℕ} 0 1 = cc in absurd (omega arith)
-found_at (Some place) e f = cc
-
--- where code found nothing, there is nothing
-pub found_nothing : (o : Option ℕ) {answer : Found} → answer ≡ as_found o → answer ≡ Nothing → o ≡ None
-found_nothing None e f = refl
-found_nothing (Some place) e f = let z : ◌≡◌ {A = ℕ} 0 1 = cc in absurd (omega arith)

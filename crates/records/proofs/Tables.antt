@@ -1,7 +1,7 @@
 -- A table and its records: decoding undoes encoding, and encoding undoes decoding, for every kind of table whose records obey the laws of `Codec`.
 -- The records after the first are those of the table without its first twelve bytes, so that each law is by induction on the number of records.
 -- A table of which nothing is unreadable reads as `map some rs`, for its records rs; both round trips go through that list.
-use Prim.Native.Nat.{ℕ, zero, suc, ◌+◌, ◌*◌, ◌/◌, ◌%◌, ◌<◌, ◌≤◌}
+use Prim.Native.Nat.{ℕ, zero, suc, ◌+◌, ◌-◌, ◌*◌, ◌/◌, ◌%◌, ◌<◌, ◌≤◌}
 use native.Mathlib.Nat.{zero-add}
 use native.Mathlib.Omega.{arith}
 use mathlib.Core.Path.{◌≡◌, refl, ap, ap₂, sym, ◌∙◌, fun_ext}
@@ -9,13 +9,13 @@ use mathlib.Core.Bool.{not}
 use mathlib.Core.List.{List, [], ◌∷◌, ◌++◌, map}
 use Rattle.std.specs.Prelude.{Option, None, Some}
 use lib.ListN.{length, get_or, take, drop, length-append, length-drop, take-append-drop, get_or-append}
-use lib.Seq.{drop_at, get_or-drop, get_or-take, length-take-le}
+use lib.Seq.{drop_at, get_or-drop, get_or-take, length-take-le, take_all}
 use Rattle.laws.specs.Lists.{Every, found, first_fault}
 use Rattle.laws.proofs.Lists.{every_get_d, every_drop, Gives}
-use Rattle.records.specs.Bytes.{Bytes, record_at}
+use Rattle.records.specs.Bytes.{Bytes, record_at, twelve}
 use Rattle.records.specs.Record.{in_passes, in_jobs, in_schedule, pass_bytes, job_bytes, slot_bytes, PassFits, JobFits, SlotFits}
 use Rattle.records.specs.Table.{reads, read_all, unreadable, readable, decode, encode}
-use Rattle.records.proofs.Codec.{Codec, passes, jobs, slots, twelve, twelve_bytes}
+use Rattle.records.proofs.Codec.{Codec, passes, jobs, slots, twelve_bytes}
 
 -- The laws of one kind of table.
 pub record RoundTrips {A : Type 0} (read : (ℕ → ℕ) → Option A) (write : A → List ℕ) (Fits : A → Type 0) : Type 0 where
@@ -73,6 +73,15 @@ record_at_byte bytes small place k = every_get_d (λ b. b < 256) bytes 0 (omega 
 -- the first record of a table is its first twelve bytes
 pub twelve_first : (bytes : List ℕ) → 12 ≤ length bytes → twelve (record_at bytes 0) ≡ take 12 bytes
 twelve_first bytes long = twelve_bytes (take 12 bytes) (length-take-le 12 bytes long) (record_at bytes 0) (λ k l. rw (zero-add, get_or-take))
+
+-- the record at a place is the first twelve bytes of those lent from there on
+pub twelve_at : (bytes : List ℕ) (place k : ℕ) → k ≡ length bytes - 12 * place → 12 * place + 12 ≤ length bytes → twelve (record_at bytes place) ≡ take 12 (take k (drop (12 * place) bytes))
+twelve_at bytes place k all room =
+    let long : length (drop (12 * place) bytes) ≡ length bytes - 12 * place = length-drop (12 * place) bytes in
+    let lent : take k (drop (12 * place) bytes) ≡ drop (12 * place) bytes = take_all k (drop (12 * place) bytes) (omega arith) in
+    rw lent
+    (twelve_bytes (take 12 (drop (12 * place) bytes)) (length-take-le 12 (drop (12 * place) bytes) (omega arith))
+    (record_at bytes place) (λ k l. rw get_or-take (sym (get_or-drop (12 * place) bytes k 0))))
 
 module _ {A : Type 0} (read : (ℕ → ℕ) → Option A) where
   -- the records from the next place on are those from this place on of the table without its first record

@@ -1,6 +1,6 @@
 -- The five records of 01's table: what reading twelve bytes finds, and the twelve bytes of a record. `b k` is byte k of the record.
-use Rattle.std.specs.Prelude.{ℕ, ◌<◌, Bool, cond, ◌&&◌, List, ◌∷◌, ◌++◌, eqb, replicate, Option, None, Some}
-use Rattle.records.specs.Bytes.{word, pair, zeros}
+use Rattle.std.specs.Prelude.{ℕ, ◌≡◌, refl, ◌<◌, Bool, cond, ◌&&◌, List, ◌∷◌, ◌++◌, eqb, replicate, Option, None, Some}
+use Rattle.records.specs.Bytes.{word, pair, zeros, twelve, bytes_from}
 use Rattle.records.specs.declared.Pass.{Pass}
 use Rattle.records.specs.declared.Flow.{Flow}
 use Rattle.records.specs.declared.Job.{Job}
@@ -10,10 +10,6 @@ use Rattle.records.specs.declared.PassRecord.{PassRecord}
 use Rattle.records.specs.declared.PassRecord.TheVariants.{P, F}
 use Rattle.records.specs.declared.JobRecord.{JobRecord}
 use Rattle.records.specs.declared.JobRecord.TheVariants.{J, L}
-use Rattle.records.specs.declared.PassRead.{PassRead}
-use Rattle.records.specs.declared.PassRead.TheVariants as pass_reading
-use Rattle.records.specs.declared.JobRead.{JobRead}
-use Rattle.records.specs.declared.JobRead.TheVariants as job_reading
 
 -- a pass by its number, cost, period, phase and finish within
 abbrev pub pass : ℕ → ℕ → ℕ → ℕ → ℕ → Pass
@@ -71,15 +67,15 @@ in_jobs b = cond (kind b 0x4a) (read_job b) (cond (kind b 0x4c) (read_link b) No
 unfoldable pub in_schedule : (ℕ → ℕ) → Option Slot
 in_schedule b = cond (kind b 0x53) (read_slot b) None
 
--- what reading a record of a pass table answers, in code: one that cannot be read stops the call with a 2
-abbrev pub pass_read : Option PassRecord → PassRead
-pass_read None = pass_reading.Unreadable
-pass_read (Some r) = pass_reading.Record r
+-- what a record of a pass table is, its twelve bytes say
+pub passes_local : (b : ℕ → ℕ) → in_passes b ≡ in_passes (bytes_from (twelve b) 0)
+unfolding in_passes read_pass read_flow
+passes_local b = refl
 
--- the same of a job table
-abbrev pub job_read : Option JobRecord → JobRead
-job_read None = job_reading.Unreadable
-job_read (Some r) = job_reading.Record r
+-- and what one of a job table is
+pub jobs_local : (b : ℕ → ℕ) → in_jobs b ≡ in_jobs (bytes_from (twelve b) 0)
+unfolding in_jobs read_job read_link
+jobs_local b = refl
 
 -- the twelve bytes of a record of a pass table
 unfoldable pub pass_bytes : PassRecord → List ℕ

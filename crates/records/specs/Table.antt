@@ -2,8 +2,6 @@
 use Rattle.std.specs.Prelude.{ℕ, zero, suc, ◌+◌, ◌/◌, ◌%◌, Bool, not, ◌||◌, List, [], ◌∷◌, length, eqb, ltb, Option, None, Some}
 use Rattle.laws.specs.Lists.{flat, found, first_fault}
 use Rattle.records.specs.Bytes.{record_at}
-use Rattle.records.specs.declared.table.Found.{Found}
-use Rattle.records.specs.declared.table.Found.TheVariants.{At, Nothing}
 
 -- 1: "length no multiple of 12, or over 49,152 bytes (4,096 records)"
 unfoldable pub bad_length : List ℕ → Bool
@@ -36,8 +34,3 @@ module _ {A : Type 0} where
   -- encoding: the records' bytes, one after another
   unfoldable pub encode : (A → List ℕ) → List A → List ℕ
   encode write = flat write
-
--- a place that was looked for, as code answers it
-abbrev pub as_found : Option ℕ → Found
-as_found None = Nothing
-as_found (Some place) = At place
