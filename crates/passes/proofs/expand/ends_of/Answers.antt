@@ -4,4 +4,4 @@ use Rattle.passes.proofs.expand.ends_of.Goals as goal
 
 pub returns : goal.returns
 unfolding ends_of
-returns c = rw (c.first_job.ensures, c.first_job-2.ensures, c.instances_of.ensures.0)
+returns c = rw (c.first_job.ensures, c.first_job-2.ensures, c.from.ensures, c.from-2.ensures, c.instances_of.ensures.0, c.from-source.ensures, c.from-target.ensures)

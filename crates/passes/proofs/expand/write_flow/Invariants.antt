@@ -1,6 +1,6 @@
--- `passes::expand::write_flow` meets its contract. The loop's invariant: writing the links of the instances from i on gives what writing all of them gives.
+-- `passes::expand::write_flow` meets its contract. The loop's invariant: writing the links of the instances that are left gives what writing all of them gives.
 -- Assumes nothing.
-use Prim.Native.Nat.{◌+◌, ◌-◌, ◌≤◌}
+use Prim.Native.Nat.{◌+◌}
 use mathlib.Core.Path.{◌≡◌}
 use mathlib.Core.List.{map}
 use lib.ListN.{length}
@@ -11,13 +11,8 @@ use Rattle.passes.specs.Ends.{matched_links}
 use Rattle.passes.proofs.Matches.{matched_from}
 use Rattle.passes.proofs.expand.write_flow.Given as goal
 
-abbrev pub invariant-loop-i : goal.invariant-loop-i
-invariant-loop-i l =
-    (1 ≤ l.i)
-    × (l.i ≤ l.ends.instances + 1)
-    × (length l.out ≡ length l.initial.out)
-    × (l.place + length (matched_links l.ends l.latency) ≡ l.next + length (matched_from l.ends l.latency l.i))
-    × (written job_bytes l.out l.next (map L (matched_from l.ends l.latency l.i)) ≡ written job_bytes l.initial.out l.place (map L (matched_links l.ends l.latency)))
-
-abbrev pub decreases-loop-i : goal.decreases-loop-i
-decreases-loop-i l = l.ends.instances + 1 - l.i
+abbrev pub invariant-loop-before : goal.invariant-loop-before
+invariant-loop-before l =
+    (length l.out ≡ length l.initial.out)
+    × (l.place + length (matched_links l.ends l.latency) ≡ l.next + length (matched_from l.ends l.latency l.before))
+    × (written job_bytes l.out l.next (map L (matched_from l.ends l.latency l.before)) ≡ written job_bytes l.initial.out l.place (map L (matched_links l.ends l.latency)))

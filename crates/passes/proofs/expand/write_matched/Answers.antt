@@ -2,31 +2,31 @@
 use native.Mathlib.Omega.{arith}
 use mathlib.Core.Path.{sym, ap, ◌∙◌}
 use lib.ListN.{length}
-use Rattle.passes.proofs.Matches.{one_match, write_none, write_one, released}
+use Rattle.passes.proofs.Matches.{one_match, write_none, write_one, released, linked}
 use Rattle.passes.proofs.expand.write_matched.Goals as goal
 
 pub returns-then-not-is_matched : goal.returns-then-not-is_matched
 returns-then-not-is_matched c =
     let a = c.args in
-    let none = write_none a.ends a.latency a.i a.out.now a.place (sym c.is_matched.ensures ∙ c.if-not-is_matched.true) in
+    let none = write_none a.ends a.latency a.before a.out.now a.place (sym c.is_matched.ensures ∙ c.if-not-is_matched.true) in
     record { value = none.0; out_after = none.1 }
 
 pub overflow_mul-before : goal.overflow_mul-before
-overflow_mul-before c = omega (arith, released c.args.ends c.requires.le_i.2 c.args.i c.requires.le_i.1)
+overflow_mul-before c = omega (arith, released c.args.ends c.requires.inside.1 c.args.before c.requires.inside.0)
 
 pub overflow_add-ends-2 : goal.overflow_add-ends-2
-overflow_add-ends-2 c = omega (arith, c.requires.le_i.2.to c.args.i c.requires.le_i.0 c.requires.le_i.1)
+overflow_add-ends-2 c = omega (arith, linked c.args.ends c.requires.inside.1 c.args.before c.requires.inside.0)
 
 pub overflow_cast-ends-2 : goal.overflow_cast-ends-2
-overflow_cast-ends-2 c = omega (arith, c.requires.le_i.2.to c.args.i c.requires.le_i.0 c.requires.le_i.1)
+overflow_cast-ends-2 c = omega (arith, linked c.args.ends c.requires.inside.1 c.args.before c.requires.inside.0)
 
 pub write_link-requires : goal.write_link-requires
 write_link-requires c =
     let a = c.args in
-    omega (arith, ap length (one_match a.ends a.latency a.i (sym c.is_matched.ensures ∙ c.if-not-is_matched.false)))
+    omega (arith, ap length (one_match a.ends a.latency a.before (sym c.is_matched.ensures ∙ c.if-not-is_matched.false)))
 
 pub returns : goal.returns
 returns c =
     let a = c.args in
-    let one = write_one a.ends a.latency a.i a.out.now a.place (sym c.is_matched.ensures ∙ c.if-not-is_matched.false) c.write_link.ensures in
+    let one = write_one a.ends a.latency a.before a.out.now a.place (sym c.is_matched.ensures ∙ c.if-not-is_matched.false) c.write_link.ensures in
     record { value = one.0; out_after = one.1 }
