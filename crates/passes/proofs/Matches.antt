@@ -21,9 +21,8 @@ use Rattle.records.specs.declared.JobRecord.TheVariants.{L}
 use Rattle.records.proofs.Codec.{jobs}
 use Rattle.records.proofs.Writing.{written, written_none, written_one, written_more, written_end}
 use Rattle.passes.specs.declared.Passes.{Passes}
-use Rattle.passes.specs.declared.expand.Ends.{Ends}
 use Rattle.passes.proofs.Numbers.{count_next, count_none}
-use Rattle.passes.specs.Ends.{ends_of, matches, matched, matched_links, record_links, EndsFit, FlowFits}
+use Rattle.passes.specs.Ends.{FlowEnds, ends_of, matches, matched, matched_links, record_links, EndsFit, FlowFits}
 
 -- an instance has one link at most
 pub match_once : (t : Bool) → from_bool t ≤ 1
@@ -31,10 +30,10 @@ match_once true = omega arith
 match_once false = omega arith
 
 -- the links of the instances after `before` of the source's
-abbrev pub matched_from : Ends → ℕ → ℕ → List Link
+abbrev pub matched_from : FlowEnds → ℕ → ℕ → List Link
 matched_from e latency before = flat (matched e latency) (count (before + 1) (e.instances - before))
 
-module _ (e : Ends) (latency : ℕ) where
+module _ (e : FlowEnds) (latency : ℕ) where
   -- all links are those of all instances
   pub matched_start : matched_links e latency ≡ matched_from e latency 0
   unfolding matched_links
@@ -103,7 +102,7 @@ module _ (e : Ends) (latency : ℕ) where
       pub links_end : {goal : List ℕ} → e.instances ≤ before → written job_bytes out place (map L (matched_from e latency before)) ≡ goal → out ≡ goal
       links_end h left = written_end jobs out place (map L (matched_from e latency before)) (ap (map L) (matched_end h)) left
 
-module _ (e : Ends) (fit : EndsFit e) (before : ℕ) (h : before < e.instances) where
+module _ (e : FlowEnds) (fit : EndsFit e) (before : ℕ) (h : before < e.instances) where
   -- no instance is released past 48,000
   pub released : before * e.source_period ≤ 48000
   released =

@@ -16,18 +16,17 @@ use Rattle.records.specs.declared.Flow.{Flow}
 use Rattle.records.specs.declared.PassRecord.{PassRecord}
 use Rattle.records.specs.declared.PassRecord.TheVariants.{F}
 use Rattle.records.specs.declared.JobRecord.TheVariants.{J, L}
-use Rattle.passes.specs.declared.expand.Ends.{Ends}
 use Rattle.passes.specs.Expand.{pass_at, passes_in_order, flows_of, cycle_of, instances, job_count, jobs_from, flow_links, expanded}
 use Rattle.passes.specs.Call.{pass_table, passes_number}
 use Rattle.passes.specs.Arrays.{passes_of}
-use Rattle.passes.specs.Ends.{ends_of, matches, matched, matched_links}
+use Rattle.passes.specs.Ends.{FlowEnds, ends_of, matches, matched, matched_links}
 use Rattle.passes.proofs.Sound.{Sound, flows_member, flow_known, number_limits}
 use Rattle.passes.proofs.Instances.{length_jobs}
 use Rattle.passes.proofs.Judging.{accepted}
 use Rattle.passes.proofs.Flows.{held_period, held_instances, number_divides, flow_matched, instances_share}
 use Rattle.passes.proofs.Pairs.{starts_before}
 
-module _ (e : Ends) (latency : ℕ) where
+module _ (e : FlowEnds) (latency : ℕ) where
   -- the instances of the source that have a link
   hits : List ℕ
   hits = keep (matches e) (count 1 e.instances)

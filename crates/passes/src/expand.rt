@@ -16,16 +16,7 @@ use crate::cycle::Plan;
 use records::read::read_pass;
 use records::write::{write_job, write_link};
 use records::{Flow, Job, Link, Pass, PassRead, PassRecord};
-
-// What the links of a flow are made of: its source's and its target's first job and period, and how many instances the source has.
-#[derive(Clone, Copy)]
-pub struct Ends {
-    pub from: usize,
-    pub to: usize,
-    pub source_period: usize,
-    pub target_period: usize,
-    pub instances: usize,
-}
+use std::marker::Model;
 
 // The pass with a number.
 fn pass_of(passes: &Passes, number: usize) -> Pass
@@ -41,7 +32,7 @@ fn pass_of(passes: &Passes, number: usize) -> Pass
     }
 }
 
-// The job of the instance of a pass that so many instances stand before; that of the first is numbered `first`.
+// The job of a pass's instance that `before` others come before; the job of the first one is numbered `first`.
 fn instance_of(pass: Pass, first: usize, before: usize) -> Job
     requires { (first + before < 48) × ((before + 1) * pass.period ≤ 48000) × (pass.phase + pass.within ≤ pass.period) }
     ensures { result ≡ instance_of pass first (before + 1) }
@@ -92,9 +83,87 @@ pub fn write_jobs(out: &mut [u8], plan: &Plan)
     }
 }
 
+// What the links of a flow are made of: its source's and its target's first job and period, and how many instances the source has.
+// The jobs that the links name are numbered below 48, and no instance is released past 48,000 ticks.
+#[derive(Drop)]
+struct Ends {
+    from: usize,
+    to: usize,
+    source_period: usize,
+    target_period: usize,
+    instances: usize,
+}
+
+impl Model for Ends {
+    ghost use Rattle.passes.specs.Ends.{FlowEnds, EndsFit};
+
+    ghost Value = { FlowEnds };
+
+    ghost view = { λ e. record { from = e.from; to = e.to; source_period = e.source_period; target_period = e.target_period; instances = e.instances } };
+
+    ghost invariant = { λ e. EndsFit (record { from = e.from; to = e.to; source_period = e.source_period; target_period = e.target_period; instances = e.instances }) };
+}
+
+impl Ends {
+    // The period of the source's instance that `before` others come before starts with a period of the target.
+    fn is_matched(&self, before: usize) -> bool
+        requires { before < self.now.instances }
+        ensures { result ≡ matches self.now (before + 1) }
+    {
+        before * self.source_period % self.target_period == 0
+    }
+
+    // How many links the flow has.
+    fn count(&self) -> usize
+        ensures upper_bound { result ≤ 48 }
+        ensures by_index { (latency : ℕ) → result ≡ length (matched_links self.now latency) }
+    {
+        let mut links = 0;
+        for before in 0..self.instances {
+            links += usize::from(self.is_matched(before));
+        }
+        links
+    }
+
+    // The link of that instance at a place, if it has one: the next place.
+    fn write_matched(&self, out: &mut [u8], place: usize, latency: u16, before: usize) -> usize
+        requires inside { before < self.now.instances }
+        requires room { 12 * (place + length (matched self.now latency (before + 1))) ≤ length out.old }
+        ensures value { result ≡ place + length (matched self.now latency (before + 1)) }
+        ensures out_after { out.new ≡ written_at out.old place (map L (matched self.now latency (before + 1))) }
+    {
+        if !self.is_matched(before) {
+            return place;
+        }
+        write_link(
+            out,
+            place,
+            Link {
+                from: (self.from + before) as u8,
+                to: (self.to + before * self.source_period / self.target_period) as u8,
+                latency,
+            },
+        );
+        place + 1
+    }
+
+    // The links of the flow from a place on: the next place.
+    fn write(&self, out: &mut [u8], place: usize, latency: u16) -> usize
+        requires { 12 * (place + length (matched_links self.now latency)) ≤ length out.old }
+        ensures value { result ≡ place + length (matched_links self.now latency) }
+        ensures out_after { out.new ≡ written_at out.old place (map L (matched_links self.now latency)) }
+    {
+        let mut next = place;
+        for before in 0..self.instances {
+            next = self.write_matched(out, next, latency, before);
+        }
+        next
+    }
+}
+
 // What the links of a flow are made of.
 fn ends_of(plan: &Plan, flow: Flow) -> Ends
-    requires { (flow.source < 24) × (flow.target < 24) }
+    requires { (flow.source < 24) × (flow.target < 24) × EndsFit (ends_of plan.now.passes plan.now.cycle flow) }
     ensures { result ≡ ends_of plan.now.passes plan.now.cycle flow }
 {
     let source = usize::from(flow.source);
@@ -108,27 +177,6 @@ fn ends_of(plan: &Plan, flow: Flow) -> Ends
     }
 }
 
-// The period of the source's instance that so many stand before starts with a period of the target.
-fn is_matched(ends: Ends, before: usize) -> bool
-    requires { (before < ends.instances) × EndsFit ends }
-    ensures { result ≡ matches ends (before + 1) }
-{
-    before * ends.source_period % ends.target_period == 0
-}
-
-// How many links a flow has.
-fn count_matched(ends: Ends) -> usize
-    requires { EndsFit ends }
-    ensures upper_bound { result ≤ 48 }
-    ensures by_index { (latency : ℕ) → result ≡ length (matched_links ends latency) }
-{
-    let mut links = 0;
-    for before in 0..ends.instances {
-        links += usize::from(is_matched(ends, before));
-    }
-    links
-}
-
 // How many links the flow of a record has.
 fn count_record(plan: &Plan, r: PassRecord) -> usize
     requires { FlowFits plan.now.passes plan.now.cycle r }
@@ -136,7 +184,7 @@ fn count_record(plan: &Plan, r: PassRecord) -> usize
 {
     match r {
         PassRecord::P(_) => 0,
-        PassRecord::F(f) => count_matched(ends_of(plan, f)),
+        PassRecord::F(f) => ends_of(plan, f).count(),
     }
 }
 
@@ -156,41 +204,6 @@ pub fn count_links(s: &[u8], plan: &Plan) -> usize
     links
 }
 
-// The link of the source's instance that so many stand before at a place, if it has one: the next place.
-fn write_matched(out: &mut [u8], place: usize, ends: Ends, latency: u16, before: usize) -> usize
-    requires inside { (before < ends.instances) × EndsFit ends }
-    requires room { 12 * (place + length (matched ends latency (before + 1))) ≤ length out.old }
-    ensures value { result ≡ place + length (matched ends latency (before + 1)) }
-    ensures out_after { out.new ≡ written_at out.old place (map L (matched ends latency (before + 1))) }
-{
-    if !is_matched(ends, before) {
-        return place;
-    }
-    write_link(
-        out,
-        place,
-        Link {
-            from: (ends.from + before) as u8,
-            to: (ends.to + before * ends.source_period / ends.target_period) as u8,
-            latency,
-        },
-    );
-    place + 1
-}
-
-// The links of a flow from a place on: the next place.
-fn write_flow(out: &mut [u8], place: usize, ends: Ends, latency: u16) -> usize
-    requires { EndsFit ends × (12 * (place + length (matched_links ends latency)) ≤ length out.old) }
-    ensures value { result ≡ place + length (matched_links ends latency) }
-    ensures out_after { out.new ≡ written_at out.old place (map L (matched_links ends latency)) }
-{
-    let mut next = place;
-    for before in 0..ends.instances {
-        next = write_matched(out, next, ends, latency, before);
-    }
-    next
-}
-
 // The links of a record's flow from a place on: the next place.
 fn write_record(out: &mut [u8], place: usize, plan: &Plan, r: PassRecord) -> usize
     requires fits { FlowFits plan.now.passes plan.now.cycle r }
@@ -200,7 +213,7 @@ fn write_record(out: &mut [u8], place: usize, plan: &Plan, r: PassRecord) -> usi
 {
     match r {
         PassRecord::P(_) => place,
-        PassRecord::F(f) => write_flow(out, place, ends_of(plan, f), f.latency),
+        PassRecord::F(f) => ends_of(plan, f).write(out, place, f.latency),
     }
 }
 

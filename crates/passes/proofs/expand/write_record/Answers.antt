@@ -13,16 +13,12 @@ use Rattle.passes.proofs.Matches.{flow_fits, flow_links_lem, pass_links}
 use Rattle.passes.proofs.expand.write_record.Goals as goal
 
 pub ends_of-requires : goal.ends_of-requires
-ends_of-requires c =
-    let plan = c.args.plan.now in
-    let ends = flow_fits plan.passes plan.cycle c.in-F.is c.requires.fits in
-    (ends.0, ends.1)
+ends_of-requires c = flow_fits c.args.plan.now.passes c.args.plan.now.cycle c.in-F.is c.requires.fits
 
-pub write_flow-requires : goal.write_flow-requires
-write_flow-requires c =
+pub write-requires : goal.write-requires
+write-requires c =
     let plan = c.args.plan.now in
-    let is = c.in-F.is in
-    rw c.ends_of.ensures ((flow_fits plan.passes plan.cycle is c.requires.fits).2, omega (arith, ap length (flow_links_lem plan.passes plan.cycle is)))
+    rw c.ends_of.ensures (omega (arith, ap length (flow_links_lem plan.passes plan.cycle c.in-F.is)))
 
 pub returns-in-P : goal.returns-in-P
 returns-in-P c =
@@ -36,6 +32,6 @@ returns-in-F c =
     let f = c.in-F.f in
     let same : matched_links c.ends_of.result f.latency ≡ record_links plan.passes plan.cycle a.r =
     ap (λ e. matched_links e f.latency) c.ends_of.ensures ∙ sym (flow_links_lem plan.passes plan.cycle c.in-F.is) in record {
-      value = c.write_flow.ensures.value ∙ ap (λ ls. a.place + length ls) same;
-      out_after = c.write_flow.ensures.out_after ∙ ap (λ ls. written_at a.out.now a.place (map L ls)) same;
+      value = c.write.ensures.value ∙ ap (λ ls. a.place + length ls) same;
+      out_after = c.write.ensures.out_after ∙ ap (λ ls. written_at a.out.now a.place (map L ls)) same;
     }
