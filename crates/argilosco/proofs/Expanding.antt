@@ -18,7 +18,8 @@ use Rattle.records.proofs.Tables.{length_encode}
 use Rattle.records.proofs.Writing.{overwrite_rest}
 use Rattle.passes.specs.Expand.{passes_in_order, flows_of, cycle_of, jobs_from, job_count, flow_links, expanded}
 use Rattle.passes.specs.Call.{pass_table, passes_number, expanded_bytes, expand_number, expand}
-use Rattle.passes.specs.Arrays.{in_order, JudgedAs, Accepted}
+use Rattle.passes.specs.Timely.{in_order}
+use Rattle.passes.specs.Arrays.{JudgedAs, Accepted}
 use Rattle.passes.specs.declared.Passes.{Passes}
 use Rattle.passes.specs.declared.Judged.{Judged}
 use Rattle.passes.proofs.Judging.{number_later, number_refused}
@@ -53,10 +54,10 @@ module _ (bytes before : List ℕ) where
         (record { number = refl; written = size; output = left })
 
 -- a table that is given 0 is accepted, with the passes, the cycle and the jobs of the answer
-pub judged_accepted : {bytes : List ℕ} {answer : Judged} → JudgedAs bytes answer → answer.number ≡ 0 → Accepted bytes answer.passes answer.cycle
+pub judged_accepted : {bytes : List ℕ} {answer : Judged} → JudgedAs bytes answer → answer.number ≡ 0 → Accepted bytes answer.plan.passes answer.plan.cycle
 judged_accepted j e = record { number = sym j.number ∙ e; passes = j.passes e; cycle = j.cycle e }
 
-pub judged_jobs : {bytes : List ℕ} {answer : Judged} → JudgedAs bytes answer → answer.number ≡ 0 → answer.jobs ≡ job_count answer.cycle (in_order answer.passes)
+pub judged_jobs : {bytes : List ℕ} {answer : Judged} → JudgedAs bytes answer → answer.number ≡ 0 → answer.jobs ≡ job_count answer.plan.cycle (in_order answer.plan.passes)
 judged_jobs {bytes} j e = j.jobs e ∙ sym (rw (passes_order bytes (judged_accepted j e), j.cycle e))
 
 module _ (bytes : List ℕ) {passes : Passes} {cycle : ℕ} (ok : Accepted bytes passes cycle) where

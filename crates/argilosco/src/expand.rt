@@ -14,18 +14,17 @@ pub fn argilosco_expand(passes: &[u8], out: &mut [u8]) -> Written
     if number != 0 {
         return Written { number, written: 0 };
     }
-    let held = judged.passes;
-    let cycle = judged.cycle;
+    let plan = &judged.plan;
     let middle = 12 * judged.jobs;
-    let room = middle + 12 * count_links(passes, held, cycle);
+    let room = middle + 12 * count_links(passes, plan);
     if out.len() < room {
         return Written {
             number: 9,
             written: 0,
         };
     }
-    write_jobs(out, held, cycle);
-    write_links(&mut out[middle..], passes, held, cycle);
+    write_jobs(out, plan);
+    write_links(&mut out[middle..], passes, plan);
     Written {
         number: 0,
         written: room as u32,

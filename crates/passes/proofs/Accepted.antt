@@ -13,7 +13,8 @@ use Rattle.records.proofs.Finding.{whole_records}
 use Rattle.passes.specs.declared.Passes.{Passes}
 use Rattle.passes.specs.Expand.{passes_in_order, flows_of, flow_links, job_count}
 use Rattle.passes.specs.Call.{pass_table}
-use Rattle.passes.specs.Arrays.{in_order, AllTimely, Accepted}
+use Rattle.passes.specs.Timely.{in_order, AllTimely}
+use Rattle.passes.specs.Arrays.{Accepted}
 use Rattle.passes.specs.Ends.{record_links, FlowFits}
 use Rattle.passes.proofs.Held.{held_order}
 use Rattle.passes.proofs.Flows.{links_each, record_fits}

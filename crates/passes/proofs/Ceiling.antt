@@ -1,23 +1,52 @@
--- The cycle as the code finds it: 48,001 stands for all that is over 48,000, and the search for it stops there.
+-- The cycle as the code finds it: there is none over 48,000, and the search for it stops there.
 -- A cycle only grows, so that once it has passed 48,000 the whole cycle has.
-use Prim.Native.Nat.{ℕ, ◌+◌, ◌/◌, ◌%◌, ◌<◌, ◌≤◌, ◌∣◌, min}
+use Prim.Native.Nat.{ℕ, ◌+◌, ◌/◌, ◌%◌, ◌<◌, ◌≤◌, ◌∣◌}
 use native.Mathlib.Nat.{div-le_self, dvd_of_mod-eq-zero, mod-eq-zero_of_dvd}
 use native.Mathlib.Omega.{arith}
 use mathlib.Core.Path.{◌≡◌, refl, ap, ◌∙◌}
-use mathlib.Core.Bool.{true, false}
+use mathlib.Core.Bool.{Bool, true, false, cond}
 use mathlib.Core.List.{[], ◌∷◌}
+use lib.Dec.{ltb}
 use lib.ListN.{get_or}
+use borrow.Author.Tests.{lt-ltb, le-ltb, ltb-true, ltb-false}
+use Rattle.std.specs.Prelude.{Option, None, Some}
 use Rattle.laws.proofs.Members.{every_member, flat_member, only_member, count_member}
 use Rattle.passes.specs.declared.Passes.{Passes}
-use Rattle.passes.specs.Expand.{lcm, cycle_from, job_count, instances}
-use Rattle.passes.specs.Arrays.{pass_in, passes_at, in_order, Timely, AllTimely}
+use Rattle.passes.specs.Expand.{lcm, cycle_from, within_limit, job_count, instances}
+use Rattle.passes.specs.Timely.{pass_in, passes_at, in_order, Timely, AllTimely}
 use Rattle.passes.proofs.Multiples.{next_multiple, lcm_first, lcm_second, lcm_least}
 use Rattle.passes.proofs.Numbers.{passes_from, from_more, from_end, cycle_append, cycle_from_lem}
 
+module _ (n : ℕ) where
+  -- a number of ticks within the limit is kept, and one over it is not
+  pub limit_kept : n ≤ 48000 → Some n ≡ within_limit n
+  limit_kept h = rw (le-ltb 48000 n h)
+
+  pub limit_passed : 48000 < n → None ≡ within_limit n
+  limit_passed h = rw (lt-ltb 48000 n h)
+
+  -- what is kept is the number, which is within the limit
+  pub kept_within : {m : ℕ} → Some m ≡ within_limit n → (m ≡ n) × (n ≤ 48000)
+  kept_within {m} e = step (ltb 48000 n) refl e
+    where
+      step : (t : Bool) → ltb 48000 n ≡ t → Some m ≡ cond t None (Some n) → (m ≡ n) × (n ≤ 48000)
+      step true h e = cc
+      step false h e = (cc, ltb-false 48000 n h)
+
+  -- what is not is over it
+  pub none_over : None ≡ within_limit n → 48000 < n
+  none_over e = step (ltb 48000 n) refl e
+    where
+      step : (t : Bool) → ltb 48000 n ≡ t → None ≡ cond t None (Some n) → 48000 < n
+      step true h e = ltb-true 48000 n h
+      step false h e = cc
+
 module _ (a b m : ℕ) (first : a ∣ m) (up_to_lem : m ≤ lcm a b) where
   -- a multiple up to the least common one that b divides is that one
-  pub multiple_found : 0 < m → m ≤ 48000 → m % b ≡ 0 → m ≡ min 48001 (lcm a b)
-  multiple_found above small e = omega (arith, lcm_least a b m above first (dvd_of_mod-eq-zero b e))
+  pub multiple_found : 0 < m → m ≤ 48000 → m % b ≡ 0 → Some m ≡ within_limit (lcm a b)
+  multiple_found above small e =
+      let same : lcm a b ≡ m = omega (arith, lcm_least a b m above first (dvd_of_mod-eq-zero b e)) in
+      rw same (limit_kept m small)
 
   -- one that b does not divide is not it, and neither is what lies between it and the next
   pub multiple_more : 0 < b → (m % b ≡ 0 → ⊥) → m + a ≤ lcm a b
@@ -52,18 +81,14 @@ module _ (passes : Passes) (n : ℕ) where
 
   module _ (c : ℕ) where
     -- a cycle that no pass joins stays as it is
-    pub joined_absent : get_or passes.present n false ≡ false → c ≤ 48000 → c ≡ min 48001 (cycle_from c (passes_at passes n))
+    pub joined_absent : get_or passes.present n false ≡ false → c ≤ 48000 → Some c ≡ within_limit (cycle_from c (passes_at passes n))
     unfolding cycle_from
-    joined_absent e small = rw (at_absent e) (omega arith)
+    joined_absent e small = rw (at_absent e) (limit_kept c small)
 
     -- one that a pass joins is the least common multiple with its period
-    pub joined_present : get_or passes.present n false ≡ true → {r : ℕ} → r ≡ min 48001 (lcm c (get_or passes.period n 0)) → r ≡ min 48001 (cycle_from c (passes_at passes n))
+    pub joined_present : get_or passes.present n false ≡ true → {r : Option ℕ} → r ≡ within_limit (lcm c (get_or passes.period n 0)) → r ≡ within_limit (cycle_from c (passes_at passes n))
     unfolding cycle_from pass_in
     joined_present e h = rw (at_present e) h
-
-    -- a cycle above 0 stays above 0
-    pub joined_above : {r : ℕ} → r ≡ min 48001 (cycle_from c (passes_at passes n)) → 0 < c → 0 < r
-    joined_above h above = omega (arith, cycle_from_lem c (passes_at passes n))
 
     -- the instances of no pass, and of a pass
     pub instances_absent : get_or passes.present n false ≡ false → 0 ≡ job_count c (passes_at passes n)
@@ -74,20 +99,25 @@ module _ (passes : Passes) (n : ℕ) where
     unfolding job_count instances pass_in
     instances_present e = rw (at_present e) (omega arith)
 
-    module _ {r w : ℕ} (h : n < 24) (here : r ≡ min 48001 (cycle_from c (passes_at passes n))) (whole : w ≡ cycle_from c (passes_from passes n)) where
+    module _ {w : ℕ} (h : n < 24) (whole : w ≡ cycle_from c (passes_from passes n)) where
       -- the cycle from a number on is that from the next one on, from the cycle with the pass of this number
       split : w ≡ cycle_from (cycle_from c (passes_at passes n)) (passes_from passes (n + 1))
       split = whole ∙ ap (cycle_from c) (from_more passes n h) ∙ cycle_append c (passes_at passes n) (passes_from passes (n + 1))
 
-      -- past the ceiling the whole cycle is past it
-      pub cycle_passed : 48000 < r → 48001 ≡ min 48001 w
-      cycle_passed over = omega (arith, split, cycle_from_lem (cycle_from c (passes_at passes n)) (passes_from passes (n + 1)))
+      -- where that is past the limit the whole cycle is past it
+      pub cycle_passed : None ≡ within_limit (cycle_from c (passes_at passes n)) → None ≡ within_limit w
+      cycle_passed none =
+          let over = none_over (cycle_from c (passes_at passes n)) none in
+          limit_passed w (omega (arith, split, cycle_from_lem (cycle_from c (passes_at passes n)) (passes_from passes (n + 1))))
 
       -- below it the search goes on from there
-      pub cycle_more : r ≤ 48000 → w ≡ cycle_from r (passes_from passes (n + 1))
-      cycle_more under = let same : cycle_from c (passes_at passes n) ≡ r = omega arith in split ∙ ap (λ k. cycle_from k (passes_from passes (n + 1))) same
+      pub cycle_more : {r : ℕ} → 0 < c → Some r ≡ within_limit (cycle_from c (passes_at passes n)) → (0 < r) × (r ≤ 48000) × (w ≡ cycle_from r (passes_from passes (n + 1)))
+      cycle_more {r} above some =
+          let kept = kept_within (cycle_from c (passes_at passes n)) some in
+          let grown = cycle_from_lem c (passes_at passes n) in
+          (omega arith, omega arith, rw kept.0 split)
 
     -- where no number is left, the cycle is found
-    pub cycle_end : {w : ℕ} → 24 ≤ n → c ≤ 48000 → w ≡ cycle_from c (passes_from passes n) → c ≡ min 48001 w
+    pub cycle_end : {w : ℕ} → 24 ≤ n → c ≤ 48000 → w ≡ cycle_from c (passes_from passes n) → Some c ≡ within_limit w
     unfolding cycle_from
-    cycle_end h small whole = let same = whole ∙ ap (cycle_from c) (from_end passes n h) in omega arith
+    cycle_end h small whole = let same = whole ∙ ap (cycle_from c) (from_end passes n h) in rw same (limit_kept c small)

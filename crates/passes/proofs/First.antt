@@ -11,7 +11,7 @@ use Rattle.laws.specs.Lists.{count, only, flat}
 use Rattle.records.specs.declared.Pass.{Pass}
 use Rattle.passes.specs.declared.Passes.{Passes}
 use Rattle.passes.specs.Expand.{job_count, first_job}
-use Rattle.passes.specs.Arrays.{pass_in, passes_at, in_order}
+use Rattle.passes.specs.Timely.{pass_in, passes_at, in_order}
 use Rattle.passes.proofs.Numbers.{passes_from, from_more, first_job_append, job_count_append}
 
 module _ (passes : Passes) (cycle : ℕ) where

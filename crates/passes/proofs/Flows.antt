@@ -15,7 +15,8 @@ use Rattle.records.specs.declared.PassRecord.{PassRecord}
 use Rattle.records.specs.declared.PassRecord.TheVariants.{P, F}
 use Rattle.passes.specs.Judge.{is_pass}
 use Rattle.passes.specs.Expand.{pass_at, passes_in_order, flows_of, cycle_of, instances, first_job, job_count, flow_links}
-use Rattle.passes.specs.Arrays.{passes_of, pass_in, passes_at, in_order}
+use Rattle.passes.specs.Timely.{pass_in, passes_at, in_order}
+use Rattle.passes.specs.Arrays.{passes_of}
 use Rattle.passes.specs.Ends.{ends_of, matches, matched, matched_links, record_links, EndsFit, FlowFits}
 use Rattle.passes.proofs.Sound.{Sound, member_order, number_limits, flow_known}
 use Rattle.passes.proofs.Least.{cycle_least}

@@ -12,7 +12,8 @@ use Rattle.laws.proofs.Rows.{get_d_row}
 use Rattle.records.specs.declared.PassRecord.{PassRecord}
 use Rattle.passes.specs.Judge.{is_pass}
 use Rattle.passes.specs.Expand.{of_pass, pass_at, passes_in_order}
-use Rattle.passes.specs.Arrays.{passes_of, pass_in, passes_at, in_order, Timely, AllTimely}
+use Rattle.passes.specs.Timely.{pass_in, passes_at, in_order, Timely, AllTimely}
+use Rattle.passes.specs.Arrays.{passes_of}
 use Rattle.passes.proofs.Sound.{Sound, order_limits}
 
 module _ (table : List PassRecord) where

@@ -1,4 +1,4 @@
--- The jobs of a pass, written one behind the other: a turn of the loop writes instance k, and those from the next instance on are left.
+-- The jobs of a pass, written one behind the other: a turn of the loop writes an instance, and those after it are left.
 use Prim.Native.Nat.{ℕ, ◌+◌, ◌-◌, ◌*◌, ◌<◌, ◌≤◌}
 use native.Mathlib.Nat.{suc-mul, div-mul-le_self}
 use native.Mathlib.Omega.{arith}
@@ -9,7 +9,6 @@ use lib.ListN.{length, get_or, length-map, length-append}
 use lib.Seq.{paste}
 use Rattle.laws.specs.Lists.{count}
 use Rattle.laws.proofs.Rows.{length_row}
-use Rattle.laws.proofs.Counting.{count_more, count_end}
 use Rattle.records.specs.Record.{job_bytes}
 use Rattle.records.specs.declared.Pass.{Pass}
 use Rattle.records.specs.declared.JobRecord.{JobRecord}
@@ -18,37 +17,41 @@ use Rattle.records.proofs.Codec.{jobs}
 use Rattle.records.proofs.Writing.{written, written_none, written_one, written_more, written_end}
 use Rattle.passes.specs.declared.Passes.{Passes}
 use Rattle.passes.specs.Expand.{instances, instance_of, jobs_from, job_count}
-use Rattle.passes.specs.Arrays.{pass_in, passes_at}
+use Rattle.passes.specs.Timely.{pass_in, passes_at}
 use Rattle.passes.proofs.Ceiling.{at_absent, at_present}
-use Rattle.passes.proofs.Numbers.{passes_from, from_more, from_end, jobs_append}
+use Rattle.passes.proofs.Numbers.{passes_from, from_more, from_end, jobs_append, count_next, count_none}
 
 -- what k periods take is what those before it take and one more
 pub periods : (k t : ℕ) → 1 ≤ k → k * t ≡ (k - 1) * t + t
 periods k t h = ap (λ n. n * t) (omega arith) ∙ suc-mul (k - 1) t
 
--- the records of the instances from k on, up to but without e
+-- and so what one more takes
+pub next_period : (before t : ℕ) → (before + 1) * t ≡ before * t + t
+next_period before t = ap (λ n. n * t) (omega arith) ∙ suc-mul before t
+
+-- the records of the instances after `before` of `times`
 abbrev pub instances_from : Pass → ℕ → ℕ → ℕ → List JobRecord
-instances_from pass first k e = map J (map (instance_of pass first) (count k (e - k)))
+instances_from pass first before times = map J (map (instance_of pass first) (count (before + 1) (times - before)))
 
 -- the loop's begin: all are left
 pub instances_start : (pass : Pass) (first times : ℕ) (out : List ℕ)
-    → written job_bytes out (first + (1 - 1)) (instances_from pass first 1 (times + 1)) ≡ written job_bytes out first (map J (map (instance_of pass first) (count 1 times)))
+    → written job_bytes out (first + 0) (instances_from pass first 0 times) ≡ written job_bytes out first (map J (map (instance_of pass first) (count 1 times)))
 instances_start pass first times out =
-    let here : first + (1 - 1) ≡ first = omega arith in
-    let all : times + 1 - 1 ≡ times = omega arith in
+    let here : first + 0 ≡ first = omega arith in
+    let all : times - 0 ≡ times = omega arith in
     rw (here, all)
 
-module _ (pass : Pass) (first k e : ℕ) (out : List ℕ) {goal : List ℕ} (left : written job_bytes out (first + (k - 1)) (instances_from pass first k e) ≡ goal) where
+module _ (pass : Pass) (first before times : ℕ) (out : List ℕ) {goal : List ℕ} (left : written job_bytes out (first + before) (instances_from pass first before times) ≡ goal) where
   -- a turn of the loop that writes them
-  pub instances_more : {after : List ℕ} → 1 ≤ k → k < e → 12 * (first + k) ≤ length out → after ≡ paste out (12 * (first + (k - 1))) (job_bytes (J (instance_of pass first k))) 12
-      → written job_bytes after (first + (k + 1 - 1)) (instances_from pass first (k + 1) e) ≡ goal
-  instances_more low h room wrote =
-      written_more jobs out (first + (k - 1)) (first + (k + 1 - 1)) (instances_from pass first k e) (J (instance_of pass first k) ∷ []) (instances_from pass first (k + 1) e)
-      (ap (λ ks. map J (map (instance_of pass first) ks)) (count_more k e h)) (omega arith) (wrote ∙ written_one jobs out (first + (k - 1)) (J (instance_of pass first k))) (omega arith) left
+  pub instances_more : {after : List ℕ} → before < times → 12 * (first + times) ≤ length out → after ≡ paste out (12 * (first + before)) (job_bytes (J (instance_of pass first (before + 1)))) 12
+      → written job_bytes after (first + (before + 1)) (instances_from pass first (before + 1) times) ≡ goal
+  instances_more h room wrote =
+      written_more jobs out (first + before) (first + (before + 1)) (instances_from pass first before times) (J (instance_of pass first (before + 1)) ∷ []) (instances_from pass first (before + 1) times)
+      (ap (λ ks. map J (map (instance_of pass first) ks)) (count_next before times h)) (omega arith) (wrote ∙ written_one jobs out (first + before) (J (instance_of pass first (before + 1)))) (omega arith) left
 
   -- its end: all are written
-  pub instances_end : e ≤ k → out ≡ goal
-  instances_end h = written_end jobs out (first + (k - 1)) (instances_from pass first k e) (ap (λ ks. map J (map (instance_of pass first) ks)) (count_end k e h)) left
+  pub instances_end : times ≤ before → out ≡ goal
+  instances_end h = written_end jobs out (first + before) (instances_from pass first before times) (ap (λ ks. map J (map (instance_of pass first) ks)) (count_none before times h)) left
 
 module _ (passes : Passes) (n cycle first : ℕ) where
   -- where there is no pass, no job is written

@@ -1,11 +1,11 @@
 -- What judging a pass table rests on: the tests of 3 and 5, which look up marks in the arrays in place of records in the table, and the number that the faults found and the sizes come to.
 -- Each is by the cases of its definition.
-use Prim.Native.Nat.{ℕ, suc, ◌<◌, ◌≤◌, min}
+use Prim.Native.Nat.{ℕ, suc, ◌<◌, ◌≤◌}
 use native.Mathlib.Omega.{arith}
 use mathlib.Core.Path.{◌≡◌, refl, sym, ap, ◌∙◌}
 use mathlib.Core.Bool.{Bool, true, false, not, ◌||◌}
 use mathlib.Core.List.{List, []}
-use Rattle.std.specs.Prelude.{None, Some}
+use Rattle.std.specs.Prelude.{Option, None, Some}
 use lib.Dec.{ltb}
 use lib.ListN.{length, get_or}
 use borrow.Author.Tests.{lt-ltb, le-ltb, ltb-false, eq-eqb, ne_eqb}
@@ -19,9 +19,10 @@ use Rattle.records.specs.declared.PassRecord.{PassRecord}
 use Rattle.records.specs.declared.PassRecord.TheVariants.{P, F}
 use Rattle.records.proofs.Finding.{found_false, refuse_zero, refuse_rest, refuse_first}
 use Rattle.passes.specs.Judge.{is_pass, bad_number, loose_flow, fault3, fault4, fault5}
-use Rattle.passes.specs.Expand.{passes_in_order, flows_of, cycle_from, cycle_of, job_count, too_large}
+use Rattle.passes.specs.Expand.{passes_in_order, flows_of, cycle_from, cycle_of, within_limit, job_count, too_large}
 use Rattle.passes.specs.Call.{pass_table, passes_number}
-use Rattle.passes.specs.Arrays.{passes_of, in_order, AllTimely, JudgedAs}
+use Rattle.passes.specs.Timely.{in_order, AllTimely}
+use Rattle.passes.specs.Arrays.{passes_of, JudgedAs}
 use Rattle.passes.specs.declared.Passes.{Passes}
 use Rattle.passes.specs.declared.Judged.{Judged}
 use Rattle.passes.proofs.Sound.{Sound}
@@ -121,9 +122,9 @@ number_refused bytes n e later =
 
 module _ (table : List PassRecord) {passes : Passes} (held : passes ≡ passes_of table) where
   -- the cycle found of the passes loaded is the table's
-  pub cycle_held : {r : ℕ} → r ≡ min 48001 (cycle_from 1 (in_order passes)) → r ≡ min 48001 (cycle_of table)
+  pub cycle_held : {r : Option ℕ} → r ≡ within_limit (cycle_from 1 (in_order passes)) → r ≡ within_limit (cycle_of table)
   unfolding cycle_of
-  cycle_held h = h ∙ ap (λ ps. min 48001 (cycle_from 1 ps)) (ap in_order held ∙ held_order table)
+  cycle_held h = h ∙ ap (λ ps. within_limit (cycle_from 1 ps)) (ap in_order held ∙ held_order table)
 
   -- each of them has a window within its period
   pub timely_held : Sound table → AllTimely passes
@@ -197,7 +198,7 @@ module _ (bytes : List ℕ) (answer : Judged) where
     six_right six e = refused_right 5 e (rw (one, two, sound.three, sound.four, sound.five, six))
 
     -- 0 and the table's passes, its cycle and how many jobs it has, where none holds
-    pub none_right : too_large (pass_table bytes) ≡ false → answer.number ≡ 0 → answer.passes ≡ passes_of (pass_table bytes) → answer.cycle ≡ cycle_of (pass_table bytes)
+    pub none_right : too_large (pass_table bytes) ≡ false → answer.number ≡ 0 → answer.plan.passes ≡ passes_of (pass_table bytes) → answer.plan.cycle ≡ cycle_of (pass_table bytes)
         → answer.jobs ≡ job_count (cycle_of (pass_table bytes)) (passes_in_order (pass_table bytes)) → JudgedAs bytes answer
     unfolding passes_number
     none_right six e passes cycle jobs = record { number = e ∙ sym (rw (one, two, sound.three, sound.four, sound.five, six)); passes = λ z. passes; cycle = λ z. cycle; jobs = λ z. jobs }

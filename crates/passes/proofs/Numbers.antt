@@ -1,6 +1,6 @@
 -- A loop over the pass numbers: the passes from a number on are the one with that number, if there is one, and those from the next number on.
 -- What is counted over passes that stand one behind the other is counted over the first, and gone on with over the others: by induction on the first.
-use Prim.Native.Nat.{ℕ, ◌+◌, ◌-◌, ◌<◌, ◌≤◌}
+use Prim.Native.Nat.{ℕ, suc, ◌+◌, ◌-◌, ◌<◌, ◌≤◌}
 use native.Mathlib.Nat.{zero-add, add_assoc}
 use native.Mathlib.Omega.{arith}
 use mathlib.Core.Path.{◌≡◌, refl, sym, ap, ◌∙◌}
@@ -10,7 +10,7 @@ use Rattle.laws.proofs.Counting.{count_more, count_end}
 use Rattle.records.specs.declared.Pass.{Pass}
 use Rattle.passes.specs.declared.Passes.{Passes}
 use Rattle.passes.specs.Expand.{lcm, cycle_from, instances, instance_of, jobs_from, job_count, first_job}
-use Rattle.passes.specs.Arrays.{passes_at, in_order}
+use Rattle.passes.specs.Timely.{passes_at, in_order}
 use Rattle.passes.proofs.Multiples.{lcm_from}
 
 -- the passes from a number on
@@ -30,6 +30,13 @@ module _ (passes : Passes) where
   -- from 24 on there are none
   pub from_end : (n : ℕ) → 24 ≤ n → passes_from passes n ≡ []
   from_end n h = ap (flat (passes_at passes)) (count_end n 24 h)
+
+-- instances are numbered from 1: those after `before` of them are the next one and those after it, and after all of them there are none
+pub count_next : (before times : ℕ) → before < times → count (before + 1) (times - before) ≡ (before + 1) ∷ count (before + 1 + 1) (times - (before + 1))
+count_next before times h = let left : times - before ≡ suc (times - (before + 1)) = omega arith in rw left
+
+pub count_none : (before times : ℕ) → times ≤ before → count (before + 1) (times - before) ≡ []
+count_none before times h = let left : times - before ≡ 0 = omega arith in rw left
 
 -- the cycle of two lists of passes is that of the second, from the cycle of the first
 pub cycle_append : (c : ℕ) (ps qs : List Pass) → cycle_from c (ps ++ qs) ≡ cycle_from (cycle_from c ps) qs

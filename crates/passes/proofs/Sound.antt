@@ -19,7 +19,7 @@ use Rattle.records.specs.declared.PassRecord.{PassRecord}
 use Rattle.records.specs.declared.PassRecord.TheVariants.{P, F}
 use Rattle.passes.specs.Judge.{is_pass, bad_number, bad_value, loose_flow, fault3, fault4, fault5}
 use Rattle.passes.specs.Expand.{of_pass, pass_at, passes_in_order, flows_of}
-use Rattle.passes.specs.Arrays.{Timely}
+use Rattle.passes.specs.Timely.{Timely}
 
 -- none of 3, 4 and 5 holds of a pass table
 pub record Sound (table : List PassRecord) : Type 0 where

@@ -9,7 +9,7 @@ ghost use Rattle.passes.specs.Expand.{flows_of};
 ghost use Rattle.passes.specs.Call.{pass_table};
 ghost use Rattle.passes.specs.Arrays.{passes_of, JudgedAs};
 
-use crate::cycle::{cycle_of, job_count};
+use crate::cycle::{Plan, cycle_of};
 use crate::load::{is_present, load_passes, no_passes};
 use crate::{Judged, Passes};
 use records::read::read_pass;
@@ -147,8 +147,10 @@ fn refused(number: u32) -> Judged
 {
     Judged {
         number,
-        passes: no_passes(),
-        cycle: 0,
+        plan: Plan {
+            passes: no_passes(),
+            cycle: 0,
+        },
         jobs: 0,
     }
 }
@@ -176,11 +178,11 @@ pub fn judge(s: &[u8]) -> Judged
     let Found::Nothing = first_loose(s, n, passes) else {
         return refused(5);
     };
-    let cycle = cycle_of(passes);
-    if 48000 < cycle {
+    let Some(cycle) = cycle_of(&passes) else {
         return refused(6);
-    }
-    let jobs = job_count(passes, cycle);
+    };
+    let plan = Plan { passes, cycle };
+    let jobs = plan.job_count();
     if 48 < jobs {
         return refused(6);
     }
@@ -189,8 +191,7 @@ pub fn judge(s: &[u8]) -> Judged
     }
     Judged {
         number: 0,
-        passes,
-        cycle,
+        plan,
         jobs,
     }
 }

@@ -7,6 +7,8 @@ pub mod expand;
 pub mod judge;
 pub mod load;
 
+use cycle::Plan;
+
 // The passes of a table by number: whether there is one, and what its record says.
 #[derive(Clone, Copy)]
 pub struct Passes {
@@ -21,7 +23,6 @@ pub struct Passes {
 #[derive(Clone, Copy)]
 pub struct Judged {
     pub number: u32,
-    pub passes: Passes,
-    pub cycle: u32,
+    pub plan: Plan,
     pub jobs: usize,
 }

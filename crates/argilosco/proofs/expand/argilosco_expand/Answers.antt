@@ -4,7 +4,7 @@ use Prim.Native.Nat.{◌-◌, ◌*◌}
 use native.Mathlib.Omega.{arith}
 use mathlib.Core.Path.{refl, sym}
 use lib.ListN.{length, length-take, length-drop}
-use Rattle.passes.proofs.Accepted.{all_timely, cycle_within, jobs_within}
+use Rattle.passes.proofs.Accepted.{jobs_within}
 use Rattle.argilosco.proofs.Expanding.{refused_right, short_right, done_right, judged_accepted, judged_jobs, job_part_lem, exact_counted, small_counted, both_written}
 use Rattle.argilosco.proofs.expand.argilosco_expand.Goals as goal
 
@@ -43,17 +43,16 @@ pub write_jobs-requires : goal.write_jobs-requires
 write_jobs-requires c =
     let accepted = judged_accepted c.judge-judged.ensures c.if-number-ne0.false in
     let counted = judged_jobs c.judge-judged.ensures c.if-number-ne0.false in
-    let table = c.args.passes.now in
     record {
-      cycle_bound = (cycle_within table accepted, jobs_within table accepted, all_timely table accepted);
-      passes_in_bounds = omega (arith, counted, c.if-out-room.false);
+      few = jobs_within c.args.passes.now accepted;
+      room = omega (arith, counted, c.if-out-room.false);
     }
 
 pub write_links-requires : goal.write_links-requires
 write_links-requires c =
     let accepted = judged_accepted c.judge-judged.ensures c.if-number-ne0.false in record {
       accepted = accepted;
-      s_in_bounds = simp (length-take, length-drop) (omega (arith, c.write_jobs.auto.out, c.if-out-room.false, c.count_links.ensures));
+      room = simp (length-take, length-drop) (omega (arith, c.write_jobs.auto.out, c.if-out-room.false, c.count_links.ensures));
     }
 
 pub overflow_cast-result : goal.overflow_cast-result

@@ -11,11 +11,11 @@ use Rattle.laws.proofs.Gathering.{tally_more, tally_end}
 use Rattle.passes.specs.Call.{pass_table}
 use Rattle.passes.specs.Ends.{record_links, FlowFits}
 use Rattle.passes.proofs.Records.{next_pass, always_read, length_table}
-use Rattle.passes.proofs.Accepted.{whole_table, all_read, all_timely, cycle_within, flow_within, all_links}
+use Rattle.passes.proofs.Accepted.{whole_table, all_read, flow_within, all_links}
 use Rattle.passes.proofs.expand.count_links.Goals as goal
 
 pub loop-i-init : goal.loop-i-init
-loop-i-init c = (search rules, search rules, ap length (all_links c.args.s.now c.requires) ∙ sym (zero-add _))
+loop-i-init c = (search rules, ap length (all_links c.args.s.now c.requires) ∙ sym (zero-add _))
 
 pub read_pass-requires : goal.read_pass-requires
 read_pass-requires c = omega (arith, whole_table c.args.s.now c.requires)
@@ -30,8 +30,8 @@ pub count_record-links-requires : goal.count_record-links-requires
 count_record-links-requires c =
     let next : Next (pass_table c.args.s.now) c.loop-i.i c.in-Record.r = next_pass c.args.s.now (length c.args.s.now / 12) (whole_table c.args.s.now c.requires).0 (all_read c.args.s.now c.requires) c.loop-i.i c.loop-i-test.true
     c.read_pass.ensures c.in-Record.is in
-    let fits : FlowFits c.args.passes c.args.cycle c.in-Record.r = flow_within c.args.s.now c.requires c.in-Record.r (next_member (pass_table c.args.s.now) c.loop-i.i next) in
-    (cycle_within c.args.s.now c.requires, all_timely c.args.s.now c.requires, fits)
+    let fits : FlowFits c.args.plan.now.passes c.args.plan.now.cycle c.in-Record.r = flow_within c.args.s.now c.requires c.in-Record.r (next_member (pass_table c.args.s.now) c.loop-i.i next) in
+    fits
 
 pub overflow_add-links : goal.overflow_add-links
 overflow_add-links c = omega (arith, whole_table c.args.s.now c.requires)
@@ -41,11 +41,10 @@ loop-i-preserved c =
     let next : Next (pass_table c.args.s.now) c.loop-i.i c.in-Record.r = next_pass c.args.s.now (length c.args.s.now / 12) (whole_table c.args.s.now c.requires).0 (all_read c.args.s.now c.requires) c.loop-i.i c.loop-i-test.true
     c.read_pass.ensures c.in-Record.is in (
       search rules,
-      search rules,
-      tally_more (record_links c.args.passes c.args.cycle) (pass_table c.args.s.now) c.loop-i.i c.loop-i.links next (ap (λ k. c.loop-i.links + k) c.count_record-links.ensures.0) c.loop-i.invariant.2,
+      tally_more (record_links c.args.plan.now.passes c.args.plan.now.cycle) (pass_table c.args.s.now) c.loop-i.i c.loop-i.links next (ap (λ k. c.loop-i.links + k) c.count_record-links.ensures.0) c.loop-i.invariant.1,
     )
 
 pub returns : goal.returns
 returns c =
     let end = length_table c.args.s.now (length c.args.s.now / 12) (whole_table c.args.s.now c.requires).0 (all_read c.args.s.now c.requires) in
-    tally_end (record_links c.args.passes c.args.cycle) (pass_table c.args.s.now) c.loop-i.i c.loop-i.links (omega (arith, c.loop-i-test.false)) c.loop-i.invariant.2
+    tally_end (record_links c.args.plan.now.passes c.args.plan.now.cycle) (pass_table c.args.s.now) c.loop-i.i c.loop-i.links (omega arith) c.loop-i.invariant.1

@@ -11,41 +11,41 @@ use Rattle.records.specs.declared.JobRecord.TheVariants.{J}
 use Rattle.records.proofs.Codec.{jobs}
 use Rattle.records.proofs.Writing.{written, written_first}
 use Rattle.passes.specs.Expand.{jobs_from, job_count}
-use Rattle.passes.specs.Arrays.{in_order}
+use Rattle.passes.specs.Timely.{in_order}
 use Rattle.passes.proofs.Numbers.{passes_from, from_none, job_count_part, job_count_more}
 use Rattle.passes.proofs.Instances.{jobs_more, jobs_end}
 use Rattle.passes.proofs.expand.write_jobs.Goals as goal
 
 pub loop-number-init : goal.loop-number-init
 loop-number-init c =
-    let a = c.args in (
-      search rules,
+    let out = c.args.out.now in
+    let plan = c.args.plan.now in (
       refl,
-      ap (job_count a.cycle) (from_none a.passes) ∙ sym (zero-add _),
-      ap (λ ps. written job_bytes a.out.now 0 (map J (jobs_from a.cycle 0 ps))) (sym (from_none a.passes)) ∙ written_first jobs a.out.now (map J (jobs_from a.cycle 0 (in_order a.passes))),
+      ap (job_count plan.cycle) (from_none plan.passes) ∙ sym (zero-add _),
+      ap (λ ps. written job_bytes out 0 (map J (jobs_from plan.cycle 0 ps))) (sym (from_none plan.passes)) ∙ written_first jobs out (map J (jobs_from plan.cycle 0 (in_order plan.passes))),
     )
 
 pub write_pass-first-requires : goal.write_pass-first-requires
 write_pass-first-requires c =
-    let part = job_count_part c.args.passes c.args.cycle c.loop-number.number c.loop-number-test.true in record {
-      number_bound = (search rules, search rules, c.requires.cycle_bound.2);
-      number_bound_2 = (omega arith, omega arith);
+    let plan = c.args.plan.now in
+    let part = job_count_part plan.passes plan.cycle c.loop-number.number c.loop-number-test.true in record {
+      known = search rules;
+      room = (omega arith, omega arith);
     }
 
 pub loop-number-preserved : goal.loop-number-preserved
 loop-number-preserved c =
-    let a = c.args in
+    let plan = c.args.plan.now in
     let turn = c.loop-number in
-    let part = job_count_part a.passes a.cycle turn.number c.loop-number-test.true in
+    let part = job_count_part plan.passes plan.cycle turn.number c.loop-number-test.true in
     let wrote = c.write_pass-first in (
-      search rules,
-      wrote.auto.out ∙ turn.invariant.1,
-      job_count_more a.passes a.cycle turn.number turn.first c.loop-number-test.true refl turn.invariant.2 ∙ ap (λ n. n + job_count a.cycle (passes_from a.passes (turn.number + 1))) (sym wrote.ensures.value),
-      jobs_more a.passes turn.number a.cycle turn.first turn.out turn.invariant.3 wrote.result c.loop-number-test.true (omega arith) wrote.ensures.out_after wrote.ensures.value,
+      wrote.auto.out ∙ turn.invariant.0,
+      job_count_more plan.passes plan.cycle turn.number turn.first c.loop-number-test.true refl turn.invariant.1 ∙ ap (λ n. n + job_count plan.cycle (passes_from plan.passes (turn.number + 1))) (sym wrote.ensures.value),
+      jobs_more plan.passes turn.number plan.cycle turn.first turn.out turn.invariant.2 wrote.result c.loop-number-test.true (omega arith) wrote.ensures.out_after wrote.ensures.value,
     )
 
 pub returns : goal.returns
 returns c =
-    let a = c.args in
+    let plan = c.args.plan.now in
     let turn = c.loop-number in
-    jobs_end a.passes turn.number a.cycle turn.first turn.out turn.invariant.3 c.loop-number-test.false
+    jobs_end plan.passes turn.number plan.cycle turn.first turn.out turn.invariant.2 (search rules)

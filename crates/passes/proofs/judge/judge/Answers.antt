@@ -1,6 +1,6 @@
 -- `passes::judge::judge` meets its contract: each refusal is the lowest that holds, since what was tested before it was found not to hold, and where nothing is found
 -- the passes that were loaded are the table's, and the cycle and the jobs counted are theirs. Assumes nothing.
-use Prim.Native.Nat.{ℕ, ◌≤◌}
+use Prim.Native.Nat.{ℕ}
 use native.Mathlib.Omega.{arith}
 use mathlib.Core.Path.{◌≡◌, refl, ◌∙◌, sym}
 use mathlib.Core.List.{List}
@@ -14,6 +14,7 @@ use Rattle.passes.specs.Expand.{cycle_of}
 use Rattle.passes.specs.Judge.{fault3, fault4, fault5}
 use Rattle.passes.specs.Call.{pass_table}
 use Rattle.passes.proofs.Sound.{Sound}
+use Rattle.passes.proofs.Ceiling.{kept_within, none_over}
 use Rattle.passes.proofs.Judging.{one_right, two_right, three_right, four_right, five_right, six_right, none_right, cycle_held, timely_held, jobs_held, cycle_large, jobs_large, flows_large, not_large}
 use Rattle.passes.proofs.judge.judge.Goals as goal
 
@@ -95,32 +96,33 @@ returns-in_default-first_loose c =
     five_right s c.refused-in_default-first_loose.result one two three four (found_at (fault5 (pass_table s)) c.first_loose.ensures c.in_default-first_loose.is)
     c.refused-in_default-first_loose.ensures
 
-pub cycle_of-cycle-requires : goal.cycle_of-cycle-requires
-cycle_of-cycle-requires c =
+pub cycle_of-requires : goal.cycle_of-requires
+cycle_of-requires c =
     let s = c.args.s.now in
     let sound = past_five s c.load_passes-loaded.ensures.fault_value c.in-Nothing-taken.is c.first_bad_value.ensures c.in-Nothing-first_bad_value.is
     c.first_loose.ensures c.in-Nothing-first_loose.is in
     let loaded = c.load_passes-loaded.ensures.passes_value sound.three in
     timely_held (pass_table s) loaded sound
 
-pub returns-then-cycle-gt48000 : goal.returns-then-cycle-gt48000
-returns-then-cycle-gt48000 c =
+pub returns-in_default-cycle_of : goal.returns-in_default-cycle_of
+returns-in_default-cycle_of c =
     let s = c.args.s.now in
     let one = sym c.bad_length.ensures ∙ c.if-bad_length.false in
     let two = found_nothing (unreadable (read_all in_passes s)) c.first_unreadable.ensures c.in-Nothing.is in
     let sound = past_five s c.load_passes-loaded.ensures.fault_value c.in-Nothing-taken.is c.first_bad_value.ensures c.in-Nothing-first_bad_value.is
     c.first_loose.ensures c.in-Nothing-first_loose.is in
     let loaded = c.load_passes-loaded.ensures.passes_value sound.three in
-    six_right s c.refused-then-cycle-gt48000.result one two sound
-    (cycle_large (pass_table s) (omega (arith, cycle_held (pass_table s) loaded c.cycle_of-cycle.ensures, c.if-cycle-gt48000.true))) c.refused-then-cycle-gt48000.ensures
+    let over = none_over (cycle_of (pass_table s)) (sym c.in_default-cycle_of.is ∙ cycle_held (pass_table s) loaded c.cycle_of.ensures) in
+    six_right s c.refused-in_default-cycle_of.result one two sound (cycle_large (pass_table s) over) c.refused-in_default-cycle_of.ensures
 
-pub job_count-jobs-requires : goal.job_count-jobs-requires
-job_count-jobs-requires c =
+pub invariant_of-plan : goal.invariant_of-plan
+invariant_of-plan c =
     let s = c.args.s.now in
     let sound = past_five s c.load_passes-loaded.ensures.fault_value c.in-Nothing-taken.is c.first_bad_value.ensures c.in-Nothing-first_bad_value.is
     c.first_loose.ensures c.in-Nothing-first_loose.is in
     let loaded = c.load_passes-loaded.ensures.passes_value sound.three in
-    (c.if-cycle-gt48000.false, timely_held (pass_table s) loaded sound)
+    let kept = kept_within (cycle_of (pass_table s)) (sym c.in-Some.is ∙ cycle_held (pass_table s) loaded c.cycle_of.ensures) in
+    record { timely = timely_held (pass_table s) loaded sound; short = omega arith }
 
 pub returns-then-jobs-gt48 : goal.returns-then-jobs-gt48
 returns-then-jobs-gt48 c =
@@ -130,10 +132,9 @@ returns-then-jobs-gt48 c =
     let sound = past_five s c.load_passes-loaded.ensures.fault_value c.in-Nothing-taken.is c.first_bad_value.ensures c.in-Nothing-first_bad_value.is
     c.first_loose.ensures c.in-Nothing-first_loose.is in
     let loaded = c.load_passes-loaded.ensures.passes_value sound.three in
-    let cycle : c.cycle_of-cycle.result ≡ cycle_of (pass_table s) = omega (arith, cycle_held (pass_table s) loaded c.cycle_of-cycle.ensures, c.if-cycle-gt48000.false) in
-    let ticks : cycle_of (pass_table s) ≤ 48000 = omega (arith, cycle, c.if-cycle-gt48000.false) in
-    let jobs = jobs_held (pass_table s) loaded c.job_count-jobs.ensures cycle in
-    six_right s c.refused-then-jobs-gt48.result one two sound (jobs_large (pass_table s) ticks (omega (arith, jobs, c.if-jobs-gt48.true))) c.refused-then-jobs-gt48.ensures
+    let kept = kept_within (cycle_of (pass_table s)) (sym c.in-Some.is ∙ cycle_held (pass_table s) loaded c.cycle_of.ensures) in
+    let jobs = jobs_held (pass_table s) loaded c.job_count-jobs.ensures kept.0 in
+    six_right s c.refused-then-jobs-gt48.result one two sound (jobs_large (pass_table s) kept.1 (omega (arith, jobs, c.if-jobs-gt48.true))) c.refused-then-jobs-gt48.ensures
 
 pub count_flows-requires : goal.count_flows-requires
 count_flows-requires c =
@@ -150,11 +151,10 @@ returns-then-count_flows-gt64 c =
     let sound = past_five s c.load_passes-loaded.ensures.fault_value c.in-Nothing-taken.is c.first_bad_value.ensures c.in-Nothing-first_bad_value.is
     c.first_loose.ensures c.in-Nothing-first_loose.is in
     let loaded = c.load_passes-loaded.ensures.passes_value sound.three in
-    let cycle : c.cycle_of-cycle.result ≡ cycle_of (pass_table s) = omega (arith, cycle_held (pass_table s) loaded c.cycle_of-cycle.ensures, c.if-cycle-gt48000.false) in
-    let ticks : cycle_of (pass_table s) ≤ 48000 = omega (arith, cycle, c.if-cycle-gt48000.false) in
-    let jobs = jobs_held (pass_table s) loaded c.job_count-jobs.ensures cycle in
+    let kept = kept_within (cycle_of (pass_table s)) (sym c.in-Some.is ∙ cycle_held (pass_table s) loaded c.cycle_of.ensures) in
+    let jobs = jobs_held (pass_table s) loaded c.job_count-jobs.ensures kept.0 in
     six_right s c.refused-then-count_flows-gt64.result one two sound
-    (flows_large (pass_table s) ticks (omega (arith, jobs, c.if-jobs-gt48.false)) (omega (arith, c.count_flows.ensures, c.if-count_flows-gt64.true))) c.refused-then-count_flows-gt64.ensures
+    (flows_large (pass_table s) kept.1 (omega (arith, jobs, c.if-jobs-gt48.false)) (omega (arith, c.count_flows.ensures, c.if-count_flows-gt64.true))) c.refused-then-count_flows-gt64.ensures
 
 pub returns : goal.returns
 returns c =
@@ -164,9 +164,8 @@ returns c =
     let sound = past_five s c.load_passes-loaded.ensures.fault_value c.in-Nothing-taken.is c.first_bad_value.ensures c.in-Nothing-first_bad_value.is
     c.first_loose.ensures c.in-Nothing-first_loose.is in
     let loaded = c.load_passes-loaded.ensures.passes_value sound.three in
-    let cycle : c.cycle_of-cycle.result ≡ cycle_of (pass_table s) = omega (arith, cycle_held (pass_table s) loaded c.cycle_of-cycle.ensures, c.if-cycle-gt48000.false) in
-    let ticks : cycle_of (pass_table s) ≤ 48000 = omega (arith, cycle, c.if-cycle-gt48000.false) in
-    let jobs = jobs_held (pass_table s) loaded c.job_count-jobs.ensures cycle in
+    let kept = kept_within (cycle_of (pass_table s)) (sym c.in-Some.is ∙ cycle_held (pass_table s) loaded c.cycle_of.ensures) in
+    let jobs = jobs_held (pass_table s) loaded c.job_count-jobs.ensures kept.0 in
     none_right s _ one two sound
-    (not_large (pass_table s) ticks (omega (arith, jobs, c.if-jobs-gt48.false)) (omega (arith, c.count_flows.ensures, c.if-count_flows-gt64.false)))
-    refl loaded cycle jobs
+    (not_large (pass_table s) kept.1 (omega (arith, jobs, c.if-jobs-gt48.false)) (omega (arith, c.count_flows.ensures, c.if-count_flows-gt64.false)))
+    refl loaded kept.0 jobs
