@@ -7,10 +7,9 @@ use Rattle.records.specs.Table.{encode}
 use Rattle.records.specs.declared.PassRecord.{PassRecord}
 use Rattle.records.specs.declared.JobRecord.{JobRecord}
 use Rattle.passes.specs.Judge.{is_pass}
-use Rattle.passes.specs.Expand.{of_pass, passes_in_order, cycle_of, job_count}
+use Rattle.passes.specs.Expand.{of_pass, cycle_of}
 use Rattle.passes.specs.Call.{pass_table, passes_number}
 use Rattle.passes.specs.declared.Passes.{Passes}
-use Rattle.passes.specs.declared.Judged.{Judged}
 
 -- the passes by number: 0 where there is none
 unfoldable pub passes_of : List PassRecord → Passes
@@ -21,13 +20,6 @@ passes_of table = record {
   phase = map (of_pass (λ p. p.phase) table) (count 0 24);
   within = map (of_pass (λ p. p.within) table) (count 0 24);
 }
-
--- what judging a table's bytes answers: the lowest of 1 to 6 that holds, or 0 and then its passes, its cycle and how many jobs it has
-pub record JudgedAs (bytes : List ℕ) (answer : Judged) : Type 0 where
-  pub number : answer.number ≡ passes_number bytes 0
-  pub passes : answer.number ≡ 0 → answer.plan.passes ≡ passes_of (pass_table bytes)
-  pub cycle : answer.number ≡ 0 → answer.plan.cycle ≡ cycle_of (pass_table bytes)
-  pub jobs : answer.number ≡ 0 → answer.jobs ≡ job_count (cycle_of (pass_table bytes)) (passes_in_order (pass_table bytes))
 
 -- passes and a cycle are those of a table that none of 1 to 6 refuses
 pub record Accepted (bytes : List ℕ) (held : Passes) (ticks : ℕ) : Type 0 where

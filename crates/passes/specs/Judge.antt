@@ -1,6 +1,6 @@
 -- Refusals 3 to 5 of a pass table, each as the first record at fault. They are judged once all records have been read.
-use Rattle.std.specs.Prelude.{ℕ, ◌+◌, Bool, false, not, ◌||◌, List, [], eqb, ltb, Option}
-use Rattle.laws.specs.Lists.{any, first_fault}
+use Rattle.std.specs.Prelude.{ℕ, Bool, List, [], Option}
+use Rattle.laws.specs.Lists.{first_fault}
 use Rattle.records.specs.declared.PassRecord.{PassRecord}
 use Rattle.tables.specs.Rules.{bad_pass_value, pass_rules}
 use Rattle.tables.specs.Judge as Judge

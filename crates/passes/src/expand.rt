@@ -8,14 +8,14 @@ ghost use Rattle.records.specs.declared.JobRecord.TheVariants.{J, L};
 ghost use Rattle.passes.specs.Expand.{instance_of, jobs_from, job_count, flow_links, flows_of};
 ghost use Rattle.passes.specs.Call.{pass_table};
 ghost use Rattle.passes.specs.Timely.{pass_in, passes_at, in_order};
-ghost use Rattle.passes.specs.Arrays.{Accepted, written_at};
+ghost use Rattle.passes.specs.Arrays.{written_at};
 ghost use Rattle.passes.specs.Ends.{ends_of, matches, matched, matched_links, record_links, EndsFit, FlowFits};
 
 use crate::Passes;
 use crate::cycle::Plan;
-use records::read::read_pass;
-use records::write::{write_job, write_link};
-use records::{Flow, Job, Link, Pass, PassRead, PassRecord};
+use crate::judge::Accepted;
+use records::write::write;
+use records::{Flow, Job, JobRecord, Link, Pass, PassRecord};
 use std::marker::Model;
 
 // The pass with a number.
@@ -52,7 +52,11 @@ fn write_instances(out: &mut [u8], first: usize, pass: Pass, times: usize)
     ensures { out.new ≡ written_at out.old first (map J (map (instance_of pass first) (count 1 times))) }
 {
     for before in 0..times {
-        write_job(out, first + before, instance_of(pass, first, before));
+        write(
+            out,
+            first + before,
+            JobRecord::J(instance_of(pass, first, before)),
+        );
     }
 }
 
@@ -135,15 +139,12 @@ impl Ends {
         if !self.is_matched(before) {
             return place;
         }
-        write_link(
-            out,
-            place,
-            Link {
-                from: (self.from + before) as u8,
-                to: (self.to + before * self.source_period / self.target_period) as u8,
-                latency,
-            },
-        );
+        let link = Link {
+            from: (self.from + before) as u8,
+            to: (self.to + before * self.source_period / self.target_period) as u8,
+            latency,
+        };
+        write(out, place, JobRecord::L(link));
         place + 1
     }
 
@@ -189,17 +190,13 @@ fn count_record(plan: &Plan, r: PassRecord) -> usize
 }
 
 // How many links the flows of a table have.
-pub fn count_links(s: &[u8], plan: &Plan) -> usize
-    requires { Accepted s.now plan.now.passes plan.now.cycle }
-    ensures { result ≡ length (flat (flow_links (pass_table s.now) plan.now.cycle) (flows_of (pass_table s.now))) }
+pub fn count_links(accepted: &Accepted) -> usize
+    ensures { result ≡ length (flat (flow_links (pass_table accepted.now.judged.table.bytes.now) accepted.now.plan.cycle) (flows_of (pass_table accepted.now.judged.table.bytes.now))) }
 {
-    let n = s.len() / 12;
+    let table = &accepted.judged.table;
     let mut links = 0;
-    for i in 0..n {
-        let PassRead::Record(r) = read_pass(s, i) else {
-            return links;
-        };
-        links += count_record(plan, r);
+    for place in 0..table.count() {
+        links += count_record(&accepted.plan, table.at(place));
     }
     links
 }
@@ -218,17 +215,13 @@ fn write_record(out: &mut [u8], place: usize, plan: &Plan, r: PassRecord) -> usi
 }
 
 // The links of all flows of a table, flow by flow as they stand in it.
-pub fn write_links(out: &mut [u8], s: &[u8], plan: &Plan)
-    requires accepted { Accepted s.now plan.now.passes plan.now.cycle }
-    requires room { 12 * length (flat (flow_links (pass_table s.now) plan.now.cycle) (flows_of (pass_table s.now))) ≤ length out.old }
-    ensures { out.new ≡ overwrite (encode job_bytes (map L (flat (flow_links (pass_table s.now) plan.now.cycle) (flows_of (pass_table s.now))))) out.old }
+pub fn write_links(out: &mut [u8], accepted: &Accepted)
+    requires { 12 * length (flat (flow_links (pass_table accepted.now.judged.table.bytes.now) accepted.now.plan.cycle) (flows_of (pass_table accepted.now.judged.table.bytes.now))) ≤ length out.old }
+    ensures { out.new ≡ overwrite (encode job_bytes (map L (flat (flow_links (pass_table accepted.now.judged.table.bytes.now) accepted.now.plan.cycle) (flows_of (pass_table accepted.now.judged.table.bytes.now))))) out.old }
 {
-    let n = s.len() / 12;
-    let mut place = 0;
-    for i in 0..n {
-        let PassRead::Record(r) = read_pass(s, i) else {
-            return;
-        };
-        place = write_record(out, place, plan, r);
+    let table = &accepted.judged.table;
+    let mut next = 0;
+    for place in 0..table.count() {
+        next = write_record(out, next, &accepted.plan, table.at(place));
     }
 }

@@ -23,8 +23,8 @@ instance_of-requires c =
 pub loop-before-preserved : goal.loop-before-preserved
 loop-before-preserved c =
     let turn = c.loop-before in
-    let wrote = c.write_job.ensures ∙ ap (λ j. paste turn.out (12 * (c.args.first + turn.before)) (job_bytes (J j)) 12) c.instance_of.ensures in (
-      c.write_job.auto.out ∙ turn.invariant.0,
+    let wrote = c.write.ensures ∙ ap (λ j. paste turn.out (12 * (c.args.first + turn.before)) (job_bytes (J j)) 12) c.instance_of.ensures in (
+      c.write.auto.out ∙ turn.invariant.0,
       instances_more c.args.pass c.args.first turn.before c.args.times turn.out turn.invariant.1 c.loop-before-test.true (search rules) wrote,
     )
 

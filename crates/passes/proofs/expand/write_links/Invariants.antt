@@ -1,5 +1,5 @@
--- `passes::expand::write_links` meets its contract. The loop's invariant: writing the links of the records from place i on gives what writing those of all gives.
--- Each record that is read is the next of the table's, and none is unreadable. Assumes nothing.
+-- `passes::expand::write_links` meets its contract. The loop's invariant: writing the links of the records from the place on gives what writing those of all gives.
+-- Assumes nothing.
 use Prim.Native.Nat.{◌+◌}
 use mathlib.Core.Path.{◌≡◌}
 use mathlib.Core.List.{map}
@@ -15,8 +15,8 @@ use Rattle.passes.specs.Call.{pass_table}
 use Rattle.passes.specs.Ends.{record_links}
 use Rattle.passes.proofs.expand.write_links.Given as goal
 
-abbrev pub invariant-loop-i : goal.invariant-loop-i
-invariant-loop-i l =
+abbrev pub invariant-loop-place : goal.invariant-loop-place
+invariant-loop-place l =
     (length l.out ≡ length l.initial.out)
-    × (length (flat (flow_links (pass_table l.s) l.plan.cycle) (flows_of (pass_table l.s))) ≡ l.place + length (flat (record_links l.plan.passes l.plan.cycle) (drop l.i (pass_table l.s))))
-    × (written job_bytes l.out l.place (map L (flat (record_links l.plan.passes l.plan.cycle) (drop l.i (pass_table l.s)))) ≡ overwrite (encode job_bytes (map L (flat (flow_links (pass_table l.s) l.plan.cycle) (flows_of (pass_table l.s))))) l.initial.out)
+    × (length (flat (flow_links (pass_table l.accepted.judged.table.bytes.now) l.accepted.plan.cycle) (flows_of (pass_table l.accepted.judged.table.bytes.now))) ≡ l.next + length (flat (record_links l.accepted.plan.passes l.accepted.plan.cycle) (drop l.place (pass_table l.accepted.judged.table.bytes.now))))
+    × (written job_bytes l.out l.next (map L (flat (record_links l.accepted.plan.passes l.accepted.plan.cycle) (drop l.place (pass_table l.accepted.judged.table.bytes.now)))) ≡ overwrite (encode job_bytes (map L (flat (flow_links (pass_table l.accepted.judged.table.bytes.now) l.accepted.plan.cycle) (flows_of (pass_table l.accepted.judged.table.bytes.now))))) l.initial.out)

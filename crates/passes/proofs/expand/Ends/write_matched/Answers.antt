@@ -11,16 +11,16 @@ returns-then-not-is_matched c =
     let none = write_none a.self.now a.latency a.before a.out.now a.place (sym c.is_matched.ensures ∙ c.if-not-is_matched.true) in
     record { value = none.0; out_after = none.1 }
 
-pub overflow_cast-self-inside-2 : goal.overflow_cast-self-inside-2
-overflow_cast-self-inside-2 c = omega (arith, linked _ c.self.invariant c.args.before (omega (arith, ap (λ e. e.instances) c.self.view_is)))
+pub overflow_cast-link-2 : goal.overflow_cast-link-2
+overflow_cast-link-2 c = omega (arith, linked _ c.self.invariant c.args.before (omega (arith, ap (λ e. e.instances) c.self.view_is)))
 
-pub write_link-requires : goal.write_link-requires
-write_link-requires c =
+pub write-requires : goal.write-requires
+write-requires c =
     let a = c.args in
     omega (arith, ap length (one_match a.self.now a.latency a.before (sym c.is_matched.ensures ∙ c.if-not-is_matched.false)))
 
 pub returns : goal.returns
 returns c =
     let a = c.args in
-    let one = write_one a.self.now a.latency a.before a.out.now a.place (sym c.is_matched.ensures ∙ c.if-not-is_matched.false) (rw (← c.self.view_is) c.write_link.ensures) in
+    let one = write_one a.self.now a.latency a.before a.out.now a.place (sym c.is_matched.ensures ∙ c.if-not-is_matched.false) (rw (← c.self.view_is) c.write.ensures) in
     record { value = one.0; out_after = one.1 }
