@@ -17,9 +17,6 @@ use Rattle.passes.proofs.expand.count_links.Goals as goal
 pub loop-i-init : goal.loop-i-init
 loop-i-init c = (search rules, ap length (all_links c.args.s.now c.requires) ∙ sym (zero-add _))
 
-pub read_pass-requires : goal.read_pass-requires
-read_pass-requires c = omega (arith, whole_table c.args.s.now c.requires)
-
 pub returns-in_default : goal.returns-in_default
 returns-in_default c =
     absurd

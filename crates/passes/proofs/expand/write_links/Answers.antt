@@ -30,9 +30,6 @@ loop-i-init c =
       ap (λ ls. written job_bytes a.out.now 0 (map L ls)) (sym all) ∙ written_first jobs a.out.now (map L (flat (flow_links (pass_table a.s.now) a.plan.now.cycle) (flows_of (pass_table a.s.now)))),
     )
 
-pub read_pass-requires : goal.read_pass-requires
-read_pass-requires c = omega (arith, whole_table c.args.s.now c.requires.accepted)
-
 pub returns-in_default : goal.returns-in_default
 returns-in_default c =
     absurd
