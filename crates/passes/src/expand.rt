@@ -19,6 +19,7 @@ use records::{Flow, Job, JobRecord, Link, Pass, PassRecord};
 use std::marker::Model;
 
 // The pass with a number.
+#[tactic(auto, unfolding(crate::specs::Timely::pass_in))]
 fn pass_of(passes: &Passes, number: usize) -> Pass
     requires { number < 24 }
     ensures { result ≡ pass_in passes.now number }
@@ -33,6 +34,7 @@ fn pass_of(passes: &Passes, number: usize) -> Pass
 }
 
 // The job of a pass's instance that `before` others come before; the job of the first one is numbered `first`.
+#[tactic(auto, unfolding(crate::specs::Expand::instance_of))]
 fn instance_of(pass: Pass, first: usize, before: usize) -> Job
     requires { (first + before < 48) × ((before + 1) * pass.period ≤ 48000) × (pass.phase + pass.within ≤ pass.period) }
     ensures { result ≡ instance_of pass first (before + 1) }
@@ -110,6 +112,7 @@ impl Model for Ends {
 
 impl Ends {
     // The period of the source's instance that `before` others come before starts with a period of the target.
+    #[tactic(auto, unfolding(crate::specs::Ends::matches))]
     fn is_matched(&self, before: usize) -> bool
         requires { before < self.now.instances }
         ensures { result ≡ matches self.now (before + 1) }
@@ -163,6 +166,7 @@ impl Ends {
 }
 
 // What the links of a flow are made of.
+#[tactic(auto, unfolding(crate::specs::Ends::ends_of))]
 fn ends_of(plan: &Plan, flow: Flow) -> Ends
     requires { (flow.source < 24) × (flow.target < 24) × EndsFit (ends_of plan.now.passes plan.now.cycle flow) }
     ensures { result ≡ ends_of plan.now.passes plan.now.cycle flow }

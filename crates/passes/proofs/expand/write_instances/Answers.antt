@@ -1,24 +1,13 @@
 -- `passes::expand::write_instances` meets its contract. The loop's invariant: writing the instances that are left gives what writing all of them gives.
 -- Assumes nothing.
-use Prim.Native.Nat.{◌+◌, ◌*◌, ◌≤◌}
-use native.Mathlib.Nat.{mul-le-mul_right}
-use native.Mathlib.Omega.{arith}
-use mathlib.Core.Path.{refl, ap, ◌∙◌}
+use Prim.Native.Nat.{◌+◌, ◌*◌}
+use mathlib.Core.Path.{ap, ◌∙◌}
 use lib.Seq.{paste}
 use borrow.Author.Rules.{rules}
 use Rattle.records.specs.Record.{job_bytes}
 use Rattle.records.specs.declared.JobRecord.TheVariants.{J}
-use Rattle.passes.proofs.Instances.{instances_start, instances_more, instances_end}
+use Rattle.passes.proofs.Instances.{instances_more, instances_end}
 use Rattle.passes.proofs.expand.write_instances.Goals as goal
-
-pub loop-before-init : goal.loop-before-init
-loop-before-init c = (refl, instances_start c.args.pass c.args.first c.args.times c.args.out.now)
-
-pub instance_of-requires : goal.instance_of-requires
-instance_of-requires c =
-    let up_to : c.loop-before.before + 1 ≤ c.args.times = search rules in
-    let span = mul-le-mul_right c.args.pass.period up_to in
-    (search rules, omega arith, search rules)
 
 pub loop-before-preserved : goal.loop-before-preserved
 loop-before-preserved c =

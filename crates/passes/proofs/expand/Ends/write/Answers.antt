@@ -8,7 +8,7 @@ use lib.ListN.{length}
 use Rattle.records.specs.Record.{job_bytes}
 use Rattle.records.specs.declared.JobRecord.TheVariants.{L}
 use Rattle.records.proofs.Writing.{written}
-use Rattle.passes.proofs.Matches.{matched_start, match_part, count_match, count_all, links_more, links_end}
+use Rattle.passes.proofs.Matches.{matched_start, match_part, count_match, links_more}
 use Rattle.passes.proofs.expand.Ends.write.Goals as goal
 
 pub loop-before-init : goal.loop-before-init
@@ -35,13 +35,3 @@ loop-before-preserved c =
       count_match a.self.now a.latency turn.before turn.next inside wrote.ensures.value turn.invariant.1,
       links_more a.self.now a.latency turn.before turn.out turn.next wrote.result inside (omega arith) wrote.ensures.out_after wrote.ensures.value turn.invariant.2,
     )
-
-pub returns : goal.returns
-returns c =
-    let a = c.args in
-    let turn = c.loop-before in
-    let past = ap (λ e. e.instances) c.self.view_is in
-    record {
-      value = count_all a.self.now a.latency turn.before turn.next (omega arith) turn.invariant.1;
-      out_after = links_end a.self.now a.latency turn.before turn.out turn.next (omega arith) turn.invariant.2;
-    }
