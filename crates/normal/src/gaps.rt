@@ -28,13 +28,7 @@ fn link_cell(cost: u16, strongest: u16) -> u32
 fn link_row(cost: u16, links: [u16; 48]) -> [u32; 48]
     ensures { result ≡ map (min ceiling) (map (gaps.weight cost) links) }
 {
-    let mut row = [0u32; 48];
-    let mut j: usize = 0;
-    while j < 48 {
-        row[j] = link_cell(cost, links[j]);
-        j += 1;
-    }
-    row
+    links.map(|strongest| link_cell(cost, strongest))
 }
 
 // The square of the links.
