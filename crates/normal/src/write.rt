@@ -1,5 +1,6 @@
 // The records of the normal form, counted and written: the jobs by number, and the links straight after the last job.
-ghost use Rattle.std.specs.Prelude.{◌≡◌, map, ◌++◌, ◌+◌, ◌*◌, ◌≤◌, ◌<◌, length};
+ghost use Rattle.std.specs.Prelude.{◌≡◌, ◌==◌, not, map, ◌++◌, ◌+◌, ◌*◌, ◌≤◌, ◌<◌, length, count_by, slice_index};
+ghost use Rattle.laws.specs.Lists.{count};
 ghost use Rattle.std.proofs.Math.Seq.{paste};
 ghost use Rattle.records.specs.Record.{job_bytes};
 ghost use Rattle.records.specs.Table.{encode};
@@ -16,44 +17,21 @@ use records::{Job, Link};
 pub fn count_jobs(jobs: Jobs) -> usize
     ensures { (result ≤ 48) × (result ≡ length (present_in jobs)) }
 {
-    let mut count: usize = 0;
-    let mut n: usize = 0;
-    while n < 48 {
-        if jobs.present[n] {
-            count += 1;
-        }
-        n += 1;
-    }
-    count
+    jobs.present.iter().filter(|present| **present).count()
 }
 
-// How many links from job i are written.
-fn count_row(links: &[[u16; 48]; 48], i: usize) -> usize
-    requires { i < 48 }
-    ensures { (result ≤ 48) × (result ≡ length (row_links links.now i)) }
+// How many links a row holds: a cell that is not 0 holds one.
+fn count_row(row: &[u16; 48]) -> usize
+    ensures { (result ≤ 48) × (result ≡ count_by (λ j. not (slice_index row.now j == 0)) (count 0 48)) }
 {
-    let mut count: usize = 0;
-    let mut j: usize = 0;
-    while j < 48 {
-        if links[i][j] != 0 {
-            count += 1;
-        }
-        j += 1;
-    }
-    count
+    row.iter().filter(|cell| **cell != 0).count()
 }
 
 // How many links are written.
 pub fn count_links(links: [[u16; 48]; 48]) -> usize
     ensures { (result ≤ 2304) × (result ≡ length (links_in links)) }
 {
-    let mut count: usize = 0;
-    let mut i: usize = 0;
-    while i < 48 {
-        count += count_row(&links, i);
-        i += 1;
-    }
-    count
+    links.iter().map(count_row).sum()
 }
 
 // The jobs, from the start of the output on.
