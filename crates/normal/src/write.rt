@@ -35,13 +35,12 @@ pub fn count_links(links: [[u16; 48]; 48]) -> usize
 }
 
 // The jobs, from the start of the output on.
-fn write_jobs(out: &mut [u8], jobs: Jobs, windows: Windows)
-    requires { EndsFit jobs windows × (12 * length (present_in jobs) ≤ length out.old) }
-    ensures { out.new ≡ overwrite (encode job_bytes (map J (jobs_in jobs windows))) out.old }
+fn write_jobs(out: &mut [u8], jobs: &Jobs, windows: &Windows)
+    requires { EndsFit jobs.now windows.now × (12 * length (present_in jobs.now) ≤ length out.old) }
+    ensures { out.new ≡ overwrite (encode job_bytes (map J (jobs_in jobs.now windows.now))) out.old }
 {
-    let mut place: usize = 0;
-    let mut n: usize = 0;
-    while n < 48 {
+    let mut place = 0;
+    for n in 0..48 {
         if jobs.present[n] {
             let cost = jobs.cost[n];
             let release = windows.earliest[n];
@@ -58,7 +57,6 @@ fn write_jobs(out: &mut [u8], jobs: Jobs, windows: Windows)
             );
             place += 1;
         }
-        n += 1;
     }
 }
 
@@ -69,8 +67,7 @@ fn write_row(out: &mut [u8], first: usize, links: &[[u16; 48]; 48], i: usize) ->
     ensures out_after { out.new ≡ paste out.old (12 * first) (encode job_bytes (map L (row_links links.now i))) (12 * length (map L (row_links links.now i))) }
 {
     let mut place = first;
-    let mut j: usize = 0;
-    while j < 48 {
+    for j in 0..48 {
         let cell = links[i][j];
         if cell != 0 {
             let latency = cell - 1;
@@ -85,21 +82,18 @@ fn write_row(out: &mut [u8], first: usize, links: &[[u16; 48]; 48], i: usize) ->
             );
             place += 1;
         }
-        j += 1;
     }
     place
 }
 
 // The links, from the start of the writer's own part of the output on.
-fn write_links(out: &mut [u8], links: [[u16; 48]; 48])
-    requires { 12 * length (links_in links) ≤ length out.old }
-    ensures { out.new ≡ overwrite (encode job_bytes (map L (links_in links))) out.old }
+fn write_links(out: &mut [u8], links: &[[u16; 48]; 48])
+    requires { 12 * length (links_in links.now) ≤ length out.old }
+    ensures { out.new ≡ overwrite (encode job_bytes (map L (links_in links.now))) out.old }
 {
-    let mut place: usize = 0;
-    let mut i: usize = 0;
-    while i < 48 {
-        place = write_row(out, place, &links, i);
-        i += 1;
+    let mut place = 0;
+    for i in 0..48 {
+        place = write_row(out, place, links, i);
     }
 }
 
@@ -109,6 +103,6 @@ pub fn write_normal(out: &mut [u8], jobs: Jobs, windows: Windows, links: [[u16; 
     ensures { out.new ≡ overwrite (encode job_bytes (map J (jobs_in jobs windows) ++ map L (links_in links))) out.old }
 {
     let middle = 12 * count_jobs(jobs);
-    write_jobs(out, jobs, windows);
-    write_links(&mut out[middle..], links);
+    write_jobs(out, &jobs, &windows);
+    write_links(&mut out[middle..], &links);
 }
