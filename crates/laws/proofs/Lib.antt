@@ -8,7 +8,7 @@ pub mod Tests
 pub mod Parts
 pub mod Rows
 pub mod Filling
-pub mod Arrays
+pub mod Closures
 pub mod InPlace
 pub mod Scanning
 pub mod Walking

@@ -3,7 +3,7 @@ use mathlib.Core.List.{map-map}
 use Prim.Native.Nat.{min}
 use native.Mathlib.Omega.{arith}
 use borrow.Author.Rules.{rules}
-use Rattle.laws.proofs.Arrays.{array_by_element}
+use Rattle.laws.proofs.Closures.{array_by_element}
 use Rattle.normal.specs.Gaps.{weight}
 use Rattle.normal.specs.Arrays.{ceiling}
 use Rattle.normal.proofs.gaps.link_row.Goals as goal

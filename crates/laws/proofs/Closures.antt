@@ -1,5 +1,5 @@
--- An array that a closure fills: from the numbers below its length (`array::from_fn`), or from the elements of another array (`map`).
--- Once each call is known to give what a function says and to leave the closure as it is, the array is that function's values.
+-- What comes of a closure that is called at each number below n, as `array::from_fn` and `(0..n).any(..)` do, or at each element of an array, as its `map` does.
+-- Each call is to give what a function says and to leave the closure as it is; the result is then that function's.
 use Prim.Native.Nat.{ℕ, zero, suc, ◌+◌, ◌<◌}
 use native.Mathlib.Nat.{zero-add}
 use native.Mathlib.Omega.{arith}
@@ -7,9 +7,18 @@ use mathlib.Core.Path.{◌≡◌, refl, sym, ap, ◌∙◌}
 use mathlib.Core.List.{List, [], ◌∷◌, map}
 use lib.ListN.{length, get_or}
 use denote.Param.Members.{Mut}
+use mathlib.Core.Bool.{Bool, true, false, ◌||◌}
+use Rattle.std.specs.List.{range_with_len, list_any, FoldsTo}
+use Rattle.std.specs.Option.{MatchOption}
+use Rattle.std.specs.Prelude.{Option}
+use Rattle.std.specs.declared.ops.Range.{Range}
+use Rattle.std.specs.Iterator.{YieldsThen}
+use Rattle.std.proofs.iter.Yields.{nat_range_steps}
+use Rattle.std.proofs.lemmas.Iterator.{YieldsList-from_range}
+use Rattle.std.proofs.lemmas.Iterator.Search.{any_from_yields_List}
 use Rattle.std.specs.Fn.{Called}
 use Rattle.std.specs.Array.{IsFromFnResultFrom, IsFromFnResult, MapsFrom, IsMapOf}
-use Rattle.laws.specs.Lists.{count}
+use Rattle.laws.specs.Lists.{count, any}
 use Rattle.laws.proofs.Lists.{map_count}
 use Rattle.laws.proofs.Filling.{map_places}
 
@@ -51,3 +60,22 @@ module _ {F A B : Type 0} (g : Mut F (A × Unit {0}) B) (f : F) (h : A → B) wh
   array_by_element {xs = x ∷ xs} {ys = y ∷ ys} {n} e made says =
       sym (map_count (λ k. h (get_or (x ∷ xs) k x)) 0 n (y ∷ ys) y made.long (λ k b. ap (λ j. h (get_or (x ∷ xs) j x)) (zero-add k) ∙ sym (mapped_from says (x ∷ xs) (y ∷ ys) x y 0 n made.each k k b (omega arith))))
       ∙ map_places h (x ∷ xs) x n e
+
+-- std's words for a row of numbers and for a test that holds of some element are ours
+numbers_same : (m n : ℕ) → range_with_len m n ≡ count m n
+numbers_same m zero = refl
+numbers_same m (suc n) = ap (◌∷◌ m) (numbers_same (m + 1) n)
+
+any_same : (p : ℕ → Bool) (xs : List ℕ) → list_any p xs ≡ any p xs
+any_same p [] = refl
+any_same p (x ∷ xs) = ap (λ t. p x || t) (any_same p xs)
+
+-- the test holds of some number below n
+pub any_below : {F : Type 0} {g : Mut F (ℕ × Unit {0}) Bool} (n : ℕ) (test : ℕ → Bool) (s u : Range ℕ) (f : F) {r : Bool} → s ≡ record { start = 0; end = n }
+    → (xs : List ℕ) × (o : Option ℕ) × (j : F) × YieldsThen nat_range_steps s xs o u × FoldsTo (λ p x q. Called g p (x, tt) false q) f xs j × MatchOption o (r ≡ false) (λ x. (r ≡ true) × ((h : F) × Called g j (x, tt) true h))
+    → ((x : ℕ) (b : Bool) (q : F) → Called g f (x, tt) b q → (q ≡ f) × (b ≡ test x))
+    → r ≡ any test (count 0 n)
+any_below n test s u f {r} range ran says =
+    any_from_yields_List test u f r ran (YieldsList-from_range 0 n n range (omega arith)) says
+    ∙ ap (list_any test) (numbers_same 0 n)
+    ∙ any_same test (count 0 n)
