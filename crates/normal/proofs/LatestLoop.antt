@@ -1,7 +1,7 @@
 -- The loop for the latest start of a job: at turn k it is the earlier of the time at hand, which is by the job's last start, and of what the jobs from k on ask.
-use Prim.Native.Nat.{ℕ, zero, suc, ◌+◌, ◌-◌, ◌<◌, ◌≤◌, min}
+use Prim.Native.Nat.{ℕ, ◌+◌, ◌<◌, ◌≤◌, min}
 use native.Mathlib.Omega.{arith}
-use mathlib.Core.Path.{◌≡◌, sym, ap, ap₂, ◌∙◌}
+use mathlib.Core.Path.{◌≡◌, sym, ap, ◌∙◌}
 use mathlib.Core.Bool.{true, false}
 use mathlib.Core.List.{List, map}
 use lib.ListN.{get_or}
@@ -11,7 +11,7 @@ use Rattle.jobs.specs.Arrays.{jobs_of}
 use Rattle.normal.specs.Gaps.{Square, cell}
 use Rattle.normal.specs.Windows.{before, smallest, last_start, latest_of}
 use Rattle.normal.proofs.WindowsLatest.{smallest_bounds}
-use Rattle.normal.proofs.NumbersFrom.{numbers_from, from_first, from_end, from_present, from_absent, cost_of, deadline_of}
+use Rattle.normal.proofs.NumbersFrom.{numbers_from, from_first, from_end, from_present, from_absent}
 
 -- the latest start of job j for the sake of some jobs
 abbrev granted : List JobRecord → Square → ℕ → List ℕ → ℕ

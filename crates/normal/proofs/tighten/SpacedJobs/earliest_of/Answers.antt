@@ -1,6 +1,5 @@
 -- `normal::tighten::SpacedJobs::earliest_of` meets its contract. The loop's invariant: the earliest start is the later of the time at hand and of what the jobs from i on ask. Assumes nothing.
-use Prim.Native.Nat.{max}
-use mathlib.Core.Path.{ap, ◌∙◌}
+use mathlib.Core.Path.{◌∙◌}
 use borrow.Author.Rules.{rules}
 use Rattle.normal.proofs.EarliestLoop.{earliest_first, earliest_present, earliest_absent, earliest_end}
 use Rattle.normal.proofs.tighten.SpacedJobs.earliest_of.Goals as goal

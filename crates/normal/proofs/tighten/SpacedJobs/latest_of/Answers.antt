@@ -1,6 +1,5 @@
 -- `normal::tighten::SpacedJobs::latest_of` meets its contract. The loop's invariant: the latest start is the earlier of the time at hand and of what the jobs from k on ask. Assumes nothing.
 use mathlib.Core.Path.{◌∙◌}
-use native.Mathlib.Omega.{arith}
 use borrow.Author.Rules.{rules}
 use Rattle.normal.proofs.LatestLoop.{latest_first, latest_present, latest_absent, latest_end}
 use Rattle.normal.proofs.tighten.SpacedJobs.latest_of.Goals as goal
