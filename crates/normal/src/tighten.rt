@@ -23,7 +23,7 @@ fn after(time: u16, gap: u32) -> u32
     u32::from(time) + gap
 }
 
-// A time and the gap before it, and another time where there is none.
+// A time less the gap before it, no less than 0, and another time where there is none.
 fn before(other: u16, time: u16, gap: u32) -> u16
     requires { gap ≤ ceiling }
     ensures { result ≡ windows.before other time gap }
@@ -66,7 +66,7 @@ impl<'a> SpacedJobs<'a> {
         u32::from(self.jobs.deadline[j]) < self.earliest_of(j) + u32::from(self.jobs.cost[j])
     }
 
-    // The last start by which job j ends by its deadline.
+    // The last start by which job j ends by its deadline, no less than 0.
     fn last_start(&self, j: usize) -> u16
         requires { j < 48 }
         ensures { (table : List JobRecord) → self.now.jobs.now ≡ jobs_of table → result ≡ windows.last_start table j }
