@@ -38,10 +38,9 @@ fn turned_row(links: &[[u16; 48]; 48], k: usize) -> [u16; 48]
 pub fn turned(links: [[u16; 48]; 48]) -> [[u16; 48]; 48]
     ensures { result ≡ map (λ k. map (λ i. cell links i k) (count 0 48)) (count 0 48) }
 {
-    array::from_fn(
-        |k|
-            requires { k < 48 }
-            ensures { result ≡ map (λ i. cell links i k) (count 0 48) }
-        { turned_row(&links, k) },
-    )
+    let mut into = [[0; 48]; 48];
+    for k in 0..48 {
+        into[k] = turned_row(&links, k);
+    }
+    into
 }

@@ -26,7 +26,7 @@ fn link_cell(cost: u16, strongest: u16) -> u32
 fn link_row(cost: u16, links: [u16; 48]) -> [u32; 48]
     ensures { result ≡ map (min ceiling) (map (gaps.weight cost) links) }
 {
-    links.map(|strongest| link_cell(cost, strongest))
+    array::from_fn(|j| link_cell(cost, links[j]))
 }
 
 // The square of the links.
