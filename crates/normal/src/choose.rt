@@ -20,9 +20,9 @@ fn choose_cell(cost: u16, latest: u16, earliest: u16, gap: u32) -> u16
 }
 
 // The links from one job that are written.
-fn choose_row(cost: u16, latest: u16, earliest: [u16; 48], row: [u32; 48]) -> [u16; 48]
-    requires { (j : ℕ) → Writable cost (get_or row j 0) }
-    ensures { result ≡ chosen_row cost latest earliest row }
+fn choose_row(cost: u16, latest: u16, earliest: &[u16; 48], row: &[u32; 48]) -> [u16; 48]
+    requires { (j : ℕ) → Writable cost (get_or row.now j 0) }
+    ensures { result ≡ chosen_row cost latest earliest.now row.now }
 {
     array::from_fn(|j| choose_cell(cost, latest, earliest[j], row[j]))
 }
@@ -34,7 +34,7 @@ pub fn choose(jobs: Jobs, windows: Windows, square: [[u32; 48]; 48]) -> [[u16; 4
 {
     let mut links = [[0; 48]; 48];
     for i in 0..48 {
-        links[i] = choose_row(jobs.cost[i], windows.latest[i], windows.earliest, square[i]);
+        links[i] = choose_row(jobs.cost[i], windows.latest[i], &windows.earliest, &square[i]);
     }
     links
 }
