@@ -23,8 +23,8 @@ fn link_cell(cost: u16, strongest: u16) -> u32
 }
 
 // The links from one job.
-fn link_row(cost: u16, links: [u16; 48]) -> [u32; 48]
-    ensures { result ≡ map (min ceiling) (map (gaps.weight cost) links) }
+fn link_row(cost: u16, links: &[u16; 48]) -> [u32; 48]
+    ensures { result ≡ map (min ceiling) (map (gaps.weight cost) links.now) }
 {
     array::from_fn(|j| link_cell(cost, links[j]))
 }
@@ -37,7 +37,7 @@ fn link_square(cost: [u16; 48], links: [[u16; 48]; 48]) -> [[u32; 48]; 48]
         requires { i < 48 }
         ensures { result ≡ map (min ceiling) (map (gaps.weight (get_or cost i 0)) (get_or links i [])) }
     {
-        link_row(cost[i], links[i])
+        link_row(cost[i], &links[i])
     })
 }
 
@@ -53,9 +53,9 @@ fn widened_cell(c: u32, a: u32, b: u32) -> u32
 }
 
 // A row with the chains through a job: a is the row's own chain to that job, and `through` that job's row.
-fn widened_row(a: u32, row: [u32; 48], through: [u32; 48]) -> [u32; 48]
-    requires { (0 < a) × (a ≤ ceiling) × ((j : ℕ) → get_or row j 0 ≤ ceiling) × ((j : ℕ) → get_or through j 0 ≤ ceiling) }
-    ensures { result ≡ map (min ceiling) (gaps.widened a row through) }
+fn widened_row(a: u32, row: &[u32; 48], through: &[u32; 48]) -> [u32; 48]
+    requires { (0 < a) × (a ≤ ceiling) × ((j : ℕ) → get_or row.now j 0 ≤ ceiling) × ((j : ℕ) → get_or through.now j 0 ≤ ceiling) }
+    ensures { result ≡ map (min ceiling) (gaps.widened a row.now through.now) }
 {
     array::from_fn(|j| widened_cell(row[j], a, through[j]))
 }
@@ -69,7 +69,7 @@ fn round(k: usize, square: &mut [[u32; 48]; 48])
     for row in square {
         let a = row[k];
         if a != 0 {
-            *row = widened_row(a, *row, through);
+            *row = widened_row(a, row, &through);
         }
     }
 }

@@ -7,4 +7,4 @@ use Rattle.normal.proofs.choose.choose_row.Goals as goal
 pub returns : goal.returns
 unfolding chosen_row
 returns c =
-    array_by_number _ _ (λ j. chosen_cell c.args.cost c.args.latest (get_or c.args.earliest j 0) (get_or c.args.row j 0)) c.from_fn.ensures.items (λ j x q b k. search rules)
+    array_by_number _ _ (λ j. chosen_cell c.args.cost c.args.latest (get_or c.args.earliest.now j 0) (get_or c.args.row.now j 0)) c.from_fn.ensures.items (λ j x q b k. search rules)

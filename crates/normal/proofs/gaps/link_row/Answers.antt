@@ -12,6 +12,6 @@ use Rattle.normal.proofs.gaps.link_row.Goals as goal
 
 pub returns : goal.returns
 returns c =
-    array_by_number _ _ (λ j. min ceiling (weight c.args.cost (get_or c.args.links j 0))) c.from_fn.ensures.items (λ j x q b k. search rules)
-    ∙ map_places (λ s. min ceiling (weight c.args.cost s)) c.args.links 0 48 (omega arith)
-    ∙ sym (map-map (min ceiling) (weight c.args.cost) c.args.links)
+    array_by_number _ _ (λ j. min ceiling (weight c.args.cost (get_or c.args.links.now j 0))) c.from_fn.ensures.items (λ j x q b k. search rules)
+    ∙ map_places (λ s. min ceiling (weight c.args.cost s)) c.args.links.now 0 48 (omega arith)
+    ∙ sym (map-map (min ceiling) (weight c.args.cost) c.args.links.now)

@@ -11,5 +11,5 @@ use Rattle.normal.proofs.gaps.widened_row.Goals as goal
 
 pub returns : goal.returns
 returns c =
-    array_by_number _ _ (λ j. min ceiling (max (get_or c.args.row j 0) (joined c.args.a (get_or c.args.through j 0)))) c.from_fn.ensures.items (λ j x q b k. search rules)
-    ∙ widened_places (min ceiling) c.args.a c.args.row c.args.through 48 (omega arith) (omega arith)
+    array_by_number _ _ (λ j. min ceiling (max (get_or c.args.row.now j 0) (joined c.args.a (get_or c.args.through.now j 0)))) c.from_fn.ensures.items (λ j x q b k. search rules)
+    ∙ widened_places (min ceiling) c.args.a c.args.row.now c.args.through.now 48 (omega arith) (omega arith)
