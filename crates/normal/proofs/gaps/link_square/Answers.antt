@@ -1,24 +1,16 @@
-use Prim.Native.Nat.{min}
-use mathlib.Core.Path.{◌≡◌, sym, ◌∙◌}
+use mathlib.Core.Path.{sym, ◌∙◌}
 use mathlib.Core.List.{[], map, map-map}
-use native.Mathlib.Omega.{arith}
+use Prim.Native.Nat.{min}
 use borrow.Author.Rules.{rules}
 use lib.ListN.{get_or}
 use Rattle.laws.specs.Lists.{count}
-use Rattle.laws.proofs.Filling.{filled_more, filled_all}
+use Rattle.laws.proofs.Closures.{array_by_number}
 use Rattle.normal.specs.Gaps.{weight}
 use Rattle.normal.specs.Arrays.{ceiling, capped, weighed}
 use Rattle.normal.proofs.gaps.link_square.Goals as goal
 
-pub loop-i-init : goal.loop-i-init
-loop-i-init c = (search rules, search rules, λ i h. absurd (omega arith))
-
-pub loop-i-preserved : goal.loop-i-preserved
-loop-i-preserved c = (search rules, search rules, filled_more [] _ c.loop-i.i c.loop-i.square c.loop-i.invariant.2 (omega arith) c.link_row.ensures)
-
 pub returns : goal.returns
 unfolding capped weighed
 returns c =
-    let end : c.loop-i.i ≡ 48 = omega arith in
-    filled_all [] _ 48 _ c.loop-i.invariant.1 (rw end at c.loop-i.invariant.2)
+    array_by_number _ _ (λ i. map (min ceiling) (map (weight (get_or c.args.cost i 0)) (get_or c.args.links i []))) c.from_fn.ensures.items (λ i y q b k. search rules)
     ∙ sym (map-map (map (min ceiling)) (λ i. map (weight (get_or c.args.cost i 0)) (get_or c.args.links i [])) (count 0 48))
