@@ -33,12 +33,12 @@ fn link_row(cost: u16, links: &[u16; 48]) -> [u32; 48]
 fn link_square(cost: [u16; 48], links: [[u16; 48]; 48]) -> [[u32; 48]; 48]
     ensures { result ≡ capped ceiling (weighed cost links) }
 {
-    array::from_fn(|i|
-        requires { i < 48 }
-        ensures { result ≡ map (min ceiling) (map (gaps.weight (get_or cost i 0)) (get_or links i [])) }
-    {
-        link_row(cost[i], &links[i])
-    })
+    array::from_fn(
+        |i|
+            requires { i < 48 }
+            ensures { result ≡ map (min ceiling) (map (gaps.weight (get_or cost i 0)) (get_or links i [])) }
+        { link_row(cost[i], &links[i]) },
+    )
 }
 
 // A cell with the chain through a job: a leads to that job and b on from it, and c is the longest so far.

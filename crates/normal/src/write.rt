@@ -10,8 +10,8 @@ ghost use Rattle.normal.specs.Chosen.{present_in, jobs_in, EndsFit, row_links, l
 
 use crate::Windows;
 use jobs::Jobs;
-use records::write::{write_job, write_link};
-use records::{Job, Link};
+use records::write::write;
+use records::{Job, JobRecord, Link};
 
 // How many jobs there are.
 pub fn count_jobs(jobs: Jobs) -> usize
@@ -43,18 +43,13 @@ fn write_jobs(out: &mut [u8], jobs: &Jobs, windows: &Windows)
     for n in 0..48 {
         if jobs.present[n] {
             let cost = jobs.cost[n];
-            let release = windows.earliest[n];
-            let deadline = windows.latest[n] + cost;
-            write_job(
-                out,
-                place,
-                Job {
-                    number: n as u8,
-                    cost,
-                    release,
-                    deadline,
-                },
-            );
+            let job = Job {
+                number: n as u8,
+                cost,
+                release: windows.earliest[n],
+                deadline: windows.latest[n] + cost,
+            };
+            write(out, place, JobRecord::J(job));
             place += 1;
         }
     }
@@ -70,16 +65,12 @@ fn write_row(out: &mut [u8], first: usize, links: &[[u16; 48]; 48], i: usize) ->
     for j in 0..48 {
         let cell = links[i][j];
         if cell != 0 {
-            let latency = cell - 1;
-            write_link(
-                out,
-                place,
-                Link {
-                    from: i as u8,
-                    to: j as u8,
-                    latency,
-                },
-            );
+            let link = Link {
+                from: i as u8,
+                to: j as u8,
+                latency: cell - 1,
+            };
+            write(out, place, JobRecord::L(link));
             place += 1;
         }
     }
