@@ -62,7 +62,8 @@ impl<'a> Problem<'a> {
             return None;
         }
         let first = u32::from(s.free).max(u32::from(self.jobs.release[k]));
-        let end = self.start_after(s, k, first)? + u32::from(self.jobs.cost[k]);
+        let start = self.start_after(s, k, first)?;
+        let end = start + u32::from(self.jobs.cost[k]);
         if u32::from(self.jobs.deadline[k]) < end {
             return None;
         }

@@ -23,7 +23,7 @@ pub try_next-returns-in_default-open : goal.try_next-returns-in_default-open
 try_next-returns-in_default-open t c = record {
   openings_le_budget = search rules;
   answers = answers_same _ _ _ _ _ _ c.loop-k.invariant.value c.loop-k.invariant.kept
-      (next_stop _ _ _ _ _ _ c.loop-k-test.true _ _ (sym c.opens_at.ensures ∙ c.in-Some.is) c.place.ensures.value _ _ _ c.open.ensures.answers c.in_default-open.not-Nothing);
+      (next_stop _ _ _ _ _ _ c.loop-k-test.true _ _ (sym c.opens_at.ensures ∙ c.in-Some.is) c.place.ensures.value _ _ _ c.open.ensures.answers (search rules));
 }
 
 pub try_next-loop-k-preserved : goal.try_next-loop-k-preserved

@@ -6,19 +6,19 @@ use Rattle.search.proofs.problem.Problem.opens_at.Goals as goal
 pub returns-then-s-k : goal.returns-then-s-k
 returns-then-s-k c = opens_placed _ _ _ _ _ _ _ _ _ c.if-s-k.true
 
-pub returns-in_err-end : goal.returns-in_err-end
-returns-in_err-end c = c.from_residual.ensures ∙ opens_not_yet _ _ _ _ _ _ _ _ _ _ _ _ c.if-s-k.false c.max-first.ensures c.from.ensures c.from-2.ensures c.in_err-end.ensures.value
+pub returns-in_err-start : goal.returns-in_err-start
+returns-in_err-start c = c.from_residual.ensures ∙ opens_not_yet _ _ _ _ _ _ _ _ _ _ _ _ c.if-s-k.false c.max-first.ensures c.from.ensures c.from-2.ensures c.in_err-start.ensures.value
 
 pub returns-then-from-end : goal.returns-then-from-end
 returns-then-from-end c =
-    opens_late _ _ _ _ _ _ _ _ _ _ _ _ c.if-s-k.false c.max-first.ensures c.from.ensures c.from-2.ensures _ _ _ c.in_ok-end.ensures.value c.from-3.ensures c.from-4.ensures c.if-from-end.true
+    opens_late _ _ _ _ _ _ _ _ _ _ _ _ c.if-s-k.false c.max-first.ensures c.from.ensures c.from-2.ensures _ _ _ c.in_ok-start.ensures.value c.from-3.ensures c.from-4.ensures c.if-from-end.true
 
 pub returns-then-not-rest_fits : goal.returns-then-not-rest_fits
 returns-then-not-rest_fits c =
-    opens_unfit _ _ _ _ _ _ _ _ _ _ _ _ c.if-s-k.false c.max-first.ensures c.from.ensures c.from-2.ensures _ _ _ c.in_ok-end.ensures.value c.from-3.ensures c.from-4.ensures
+    opens_unfit _ _ _ _ _ _ _ _ _ _ _ _ c.if-s-k.false c.max-first.ensures c.from.ensures c.from-2.ensures _ _ _ c.in_ok-start.ensures.value c.from-3.ensures c.from-4.ensures
     _ c.if-from-end.false c.rest_fits.ensures c.if-not-rest_fits.true
 
 pub returns : goal.returns
 returns c =
-    opens_fit _ _ _ _ _ _ _ _ _ _ _ _ c.if-s-k.false c.max-first.ensures c.from.ensures c.from-2.ensures _ _ _ c.in_ok-end.ensures.value c.from-3.ensures c.from-4.ensures
+    opens_fit _ _ _ _ _ _ _ _ _ _ _ _ c.if-s-k.false c.max-first.ensures c.from.ensures c.from-2.ensures _ _ _ c.in_ok-start.ensures.value c.from-3.ensures c.from-4.ensures
     _ c.if-from-end.false c.rest_fits.ensures c.if-not-rest_fits.false
