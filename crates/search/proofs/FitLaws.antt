@@ -6,12 +6,14 @@ use mathlib.Core.Path.{◌≡◌, refl, sym, ap, ◌∙◌}
 use mathlib.Core.Bool.{Bool, true, false, cond, not, ◌&&◌}
 use mathlib.Core.List.{List, ◌∷◌, map}
 use lib.Dec.{leb, ltb, eqb}
-use borrow.Author.Tests.{eq-eqb, ne_eqb, le-ltb, lt-ltb, le-leb, lt-leb}
+use borrow.Author.Tests.{eq-eqb, ne_eqb, eqb-true, eqb-false, not-true, not-false, le-ltb, lt-ltb, le-leb, lt-leb}
 use Rattle.laws.specs.Lists.{all, largest, total}
 use Rattle.laws.proofs.Scanning.{keep_taken, keep_left, keep_none}
 use Rattle.laws.proofs.Keeping.{keep_from, keep_start}
 use Rattle.std.specs.Prelude.{Option, Some, None}
-use Rattle.search.specs.State.{at, is_placed, linked, start_at, remains_after, left, fits_after, together_after, rest_fits, ends_at, opens_at}
+use Rattle.std.specs.Option.{option_eq}
+use Rattle.laws.proofs.Members.{true_not_false}
+use Rattle.search.specs.State.{number_or_none, at, is_placed, linked, start_at, remains_after, left, fits_after, together_after, rest_fits, ends_at, opens_at}
 
 -- `start_after`: with what the links from the jobs below i allow in t, the links from the jobs from i on are still to be seen
 module _ (row : List ℕ) (placed : List Bool) (ends : List ℕ) (limit : ℕ) where
@@ -51,23 +53,37 @@ module _ (row : List ℕ) (placed : List Bool) (ends : List ℕ) (limit : ℕ) w
         rw (raised, ended, read)
         (start_more t i (keep_from is_linked (i + 1) limit) e ∙ ap (start_at row placed ends t) (sym (keep_taken is_linked i limit below (lt-ltb 0 (at row i) (omega arith)))))
 
--- whether job m remains after job k
-module _ (placed : List Bool) (k m : ℕ) where
-  pub remains_same : m ≡ k → remains_after placed k m ≡ false
-  unfolding remains_after
-  remains_same h = rw (eq-eqb m k h)
+-- whether job m remains after the last job, if there is one: it has another number, as the code tells, and has not run
+module _ (placed : List Bool) (last_job : Option ℕ) (m : ℕ) where
+  abbrev other : Bool
+  other = not (option_eq eqb last_job (Some m))
 
-  pub remains_placed : is_placed placed m ≡ true → remains_after placed k m ≡ false
+  abbrev remains : Bool
+  remains = remains_after placed (number_or_none last_job) m
+
+  pub remains_placed : is_placed placed m ≡ true → remains ≡ false
   unfolding remains_after
-  remains_placed e = rw e (and_false (not (eqb m k)))
+  remains_placed e = rw e (and_false (not (eqb m (number_or_none last_job))))
     where
       and_false : (b : Bool) → (b && false) ≡ false
       and_false true = refl
       and_false false = refl
 
-  pub remains_other : (m ≡ k → ⊥) → is_placed placed m ≡ false → remains_after placed k m ≡ true
+  pub remains_same : false ≡ other → remains ≡ false
   unfolding remains_after
-  remains_other h e = rw (ne_eqb m k h, e)
+  remains_same e = step last_job e
+    where
+      step : (o : Option ℕ) → false ≡ not (option_eq eqb o (Some m)) → remains_after placed (number_or_none o) m ≡ false
+      step None h = absurd (true_not_false refl (sym h))
+      step (Some k) h = rw (eq-eqb m k (sym (eqb-true k m (not-false (eqb k m) (sym h)))))
+
+  pub remains_other : m < 48 → true ≡ other → is_placed placed m ≡ false → remains ≡ true
+  unfolding remains_after
+  remains_other below e f = rw (ne_eqb m (number_or_none last_job) (step last_job e), f)
+    where
+      step : (o : Option ℕ) → true ≡ not (option_eq eqb o (Some m)) → m ≡ number_or_none o → ⊥
+      step None h = λ z. omega arith
+      step (Some k) h = λ z. eqb-false k m (not-true (eqb k m) (sym h)) (sym z)
 
 -- `rest_fits`: with the costs of the jobs below m that remain and their largest deadline, those from m on are still to be seen
 module _ (cost release deadline : List ℕ) (limit : ℕ) (placed : List Bool) (k t : ℕ) where

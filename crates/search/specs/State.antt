@@ -91,6 +91,11 @@ given_of p = given p.jobs.now.cost p.jobs.now.release p.jobs.now.deadline p.into
 abbrev pub start_next : Given → State → ℕ → ℕ → Option ℕ
 start_next g s k first = start_at (get_or g.into k []) s.placed s.ends first (linked (get_or g.into k []) g.limit)
 
+-- a job's number, or 48, which no job has, where there is no job
+abbrev pub number_or_none : Option ℕ → ℕ
+number_or_none (Some k) = k
+number_or_none None = 48
+
 -- the jobs that remain after job k, where those marked have run, fit after t
 abbrev pub rest_after : Given → List Bool → ℕ → ℕ → Bool
 rest_after g placed k t = rest_fits g.cost g.release g.deadline g.limit placed k t

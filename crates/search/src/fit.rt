@@ -1,6 +1,6 @@
 // The test for live: when a job could start next, and whether the jobs that remain fit after it.
 ghost use Rattle.std.specs.Prelude.{◌≡◌, ◌<◌};
-ghost use Rattle.search.specs.State.{given_of, start_next, StartBelow, fits_after, rest_after, next_at};
+ghost use Rattle.search.specs.State.{given_of, start_next, StartBelow, fits_after, rest_after, number_or_none, next_at};
 
 use crate::State;
 use crate::problem::Problem;
@@ -34,15 +34,16 @@ impl<'a> Problem<'a> {
             <= u32::from(self.jobs.deadline[m])
     }
 
-    // The jobs that remain after job k fit after the time t: each by itself, and all together. Costs are above 0, so that their sum is 0 where none remain.
-    pub fn rest_fits(&self, placed: &[bool; 48], k: usize, t: u32) -> bool
+    // The jobs that remain after the last one, if there is one, fit after the time t: each by itself, and all together.
+    // Costs are above 0, so that their sum is 0 where none remain.
+    pub fn rest_fits(&self, placed: &[bool; 48], last_job: Option<usize>, t: u32) -> bool
         requires { t < 65536 }
-        ensures { result ≡ rest_after (given_of self.now) placed.now k t }
+        ensures { result ≡ rest_after (given_of self.now) placed.now (number_or_none last_job) t }
     {
         let mut costs = 0u32;
         let mut last = 0u32;
         for m in 0..self.limit {
-            if m != k && !placed[m] {
+            if last_job != Some(m) && !placed[m] {
                 if !self.fits_alone(t, m) {
                     return false;
                 }
@@ -67,7 +68,7 @@ impl<'a> Problem<'a> {
         if u32::from(self.jobs.deadline[k]) < end {
             return None;
         }
-        if !self.rest_fits(&s.placed, k, end) {
+        if !self.rest_fits(&s.placed, Some(k), end) {
             return None;
         }
         Some(end as u16)

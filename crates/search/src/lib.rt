@@ -18,9 +18,6 @@ pub mod fit;
 pub mod problem;
 pub mod tree;
 
-// No job has this number.
-const NO_JOB: usize = 48;
-
 // Which jobs have run, in what order, when each of them ended, and when the core is free. A number that no job has is marked as placed.
 #[derive(Clone, Copy)]
 pub struct State {
@@ -72,7 +69,7 @@ pub fn search(jobs: Jobs, into: &[[u16; 48]; 48], budget: u32, out: &mut [u8]) -
         budget,
     };
     let placed = absent(jobs.present);
-    if !problem.rest_fits(&placed, NO_JOB, 0) {
+    if !problem.rest_fits(&placed, None, 0) {
         return Found::Nothing { openings: 0 };
     }
     let begun = State {
