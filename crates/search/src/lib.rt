@@ -46,13 +46,10 @@ fn absent(present: [bool; 48]) -> [bool; 48]
 fn limit_of(jobs: &Jobs) -> usize
     ensures { (result ≡ limit_of jobs.now) × (result ≤ 48) }
 {
-    let mut limit = 0;
-    for k in 0..48 {
-        if jobs.present[k] {
-            limit = k + 1;
-        }
+    match jobs.present.iter().rposition(|p| *p) {
+        Some(last) => last + 1,
+        None => 0,
     }
-    limit
 }
 
 // The search under a budget on a normal form, given as its jobs by number and, by number too, the links into each job: `into[k][i]` is one more than the latency
