@@ -182,3 +182,10 @@ module _ (cost release deadline row : List ℕ) (limit : ℕ) (placed : List Boo
       step true s g = let z : ◌≡◌ {A = ℕ} 0 1 = cc in absurd (omega arith)
       step false None g = let z : ◌≡◌ {A = ℕ} 0 1 = cc in absurd (omega arith)
       step false (Some t) g = ended t (leb (t + at cost k) (at deadline k) && rest_fits cost release deadline limit placed k (t + at cost k)) g
+
+-- what `start_after`, `rest_fits` and `opens_at` are proved by
+pub ruleset start_laws = (start_start, start_end, start_skip, start_not, start_on)
+
+pub ruleset rest_laws = (rest_start, rest_end, rest_skip, rest_not, rest_on, remains_placed, remains_same, remains_other, together_none, together_some)
+
+pub ruleset opens_laws = (opens_placed, opens_not_yet, opens_late, opens_unfit, opens_fit)

@@ -7,6 +7,7 @@ use crate::problem::Problem;
 
 impl<'a> Problem<'a> {
     // When job k may start that could start at `first` but for its links: not yet, if a job that it is linked from has not run.
+    #[tactic(auto, using(crate::proofs::FitLaws::start_laws))]
     fn start_after(&self, s: &State, k: usize, first: u32) -> Option<u32>
         requires { (k < 48) × (first < 131072) }
         ensures value { result ≡ start_next (given_of self.now) s.now k first }
@@ -26,6 +27,7 @@ impl<'a> Problem<'a> {
     }
 
     // Job m, run by itself, fits after the time t.
+    #[tactic(auto, unfolding(crate::specs::State::fits_after))]
     fn fits_alone(&self, t: u32, m: usize) -> bool
         requires { (m < 48) × (t < 65536) }
         ensures { result ≡ fits_after self.now.jobs.now.cost self.now.jobs.now.release self.now.jobs.now.deadline t m }
@@ -36,6 +38,7 @@ impl<'a> Problem<'a> {
 
     // The jobs that remain after the last one, if there is one, fit after the time t: each by itself, and all together.
     // Costs are above 0, so that their sum is 0 where none remain.
+    #[tactic(auto, using(crate::proofs::FitLaws::rest_laws))]
     pub fn rest_fits(&self, placed: &[bool; 48], last_job: Option<usize>, t: u32) -> bool
         requires { t < 65536 }
         ensures { result ≡ rest_after (given_of self.now) placed.now (number_or_none last_job) t }
@@ -55,6 +58,7 @@ impl<'a> Problem<'a> {
     }
 
     // When job k ends, if it may come next and what it makes of the sequence is live.
+    #[tactic(auto, using(crate::proofs::FitLaws::opens_laws))]
     pub fn opens_at(&self, s: &State, k: usize) -> Option<u16>
         requires { k < 48 }
         ensures { result ≡ next_at (given_of self.now) s.now k }

@@ -7,22 +7,26 @@ use crate::problem::Problem;
 use crate::{Found, State};
 use records::Slot;
 
-// The state with job k run next, at the place `depth`, until `end`.
-fn place(s: &State, k: usize, end: u16, depth: usize) -> State
-    requires { (k < 48) × (depth < 48) }
-    ensures value { result ≡ place_at s.now k end depth }
-    ensures by_index { (cost : List ℕ) → HaveRun cost s.now.order s.now.ends depth → at cost k ≤ end → HaveRun cost result.order result.ends (depth + 1) }
-{
-    let mut next = *s;
-    next.placed[k] = true;
-    next.order[depth] = k as u8;
-    next.ends[k] = end;
-    next.free = end;
-    next
+impl State {
+    // The state with job k run next, at the place `depth`, until `end`.
+    #[tactic(auto, unfolding(crate::specs::State::place_at))]
+    fn place(&self, k: usize, end: u16, depth: usize) -> State
+        requires { (k < 48) × (depth < 48) }
+        ensures value { result ≡ place_at self.now k end depth }
+        ensures by_index { (cost : List ℕ) → HaveRun cost self.now.order self.now.ends depth → at cost k ≤ end → HaveRun cost result.order result.ends (depth + 1) }
+    {
+        let mut next = *self;
+        next.placed[k] = true;
+        next.order[depth] = k as u8;
+        next.ends[k] = end;
+        next.free = end;
+        next
+    }
 }
 
 impl<'a> Problem<'a> {
     // The slots of all jobs in order, written from the start of the output on.
+    #[tactic(auto, using(crate::proofs::SlotLaws::slots_laws))]
     fn write_slots(&self, s: &State, out: &mut [u8])
         requires room { 12 * self.now.count ≤ length out.old }
         requires have_run { HaveRun self.now.jobs.now.cost s.now.order s.now.ends self.now.count }
@@ -72,7 +76,7 @@ impl<'a> Problem<'a> {
         let mut openings = opened;
         for k in 0..self.limit {
             if let Some(end) = self.opens_at(s, k) {
-                match self.open(place(s, k, end, depth), depth + 1, openings, out) {
+                match self.open(s.place(k, end, depth), depth + 1, openings, out) {
                     Found::Nothing { openings: so_far } => openings = so_far,
                     found => return found,
                 }
