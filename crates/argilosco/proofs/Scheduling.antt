@@ -28,7 +28,7 @@ use Rattle.normal.proofs.FormHeld.{below_48}
 use Rattle.normal.proofs.FormGiven.{links_given}
 use Rattle.normal.proofs.Answers.{jobs_refused, ring_number, starts_number_lem, held_number}
 use Rattle.search.specs.declared.Found.{Found}
-use Rattle.search.specs.State.{links_into, Answers}
+use Rattle.search.specs.State.{links_into, number_of, openings_of, Answers}
 use Rattle.search.specs.Call.{searched, schedule_number, scheduled}
 use Rattle.search.proofs.ByNumber.{numbers_in}
 use Rattle.search.proofs.Given.{first_length}
@@ -46,7 +46,7 @@ module _ (bytes : List ℕ) (budget : ℕ) (before : List ℕ) where
 
   -- any other answers as the search does
   pub schedule_searched : schedule_number bytes (length before) ≡ 0 → {found : Found} {after : List ℕ} → Answers (searched (normal_form (job_table bytes)) budget) found before after
-      → {answer : Scheduled} → answer.number ≡ found.number → answer.openings ≡ found.openings → answer.written ≡ length (searched (normal_form (job_table bytes)) budget).bytes
+      → {answer : Scheduled} → answer.number ≡ number_of found → answer.openings ≡ openings_of found → answer.written ≡ length (searched (normal_form (job_table bytes)) budget).bytes
       → SchedulePromise bytes budget before answer after
   unfolding scheduled
   schedule_searched e a number openings written =
@@ -102,20 +102,13 @@ module _ {table : List JobRecord} {jobs : Jobs} {square : Square} (held : Holds 
       (λ k m. map_same (λ i. cell links i k) (λ i. strongest (normal_form table) i k) (count 0 48)
       (λ i n. ap (λ s. cell s i k) chose ∙ links_given held w same i k (below_48 i n) (below_48 k m)))
 
-  -- a search that is done writes a slot of each job
-  pub slots_length : (budget : ℕ) → (searched (normal_form table) budget).number ≡ 0 → 12 * length (present_in jobs) ≡ length (searched (normal_form table) budget).bytes
-  slots_length budget = means (searched_comes (normalisable held) budget)
+  -- a search that is done writes a slot of each job, and any other nothing
+  pub written_length : (budget : ℕ) → {number written : ℕ} → number ≡ (searched (normal_form table) budget).number
+      → (number ≡ 0 → written ≡ 12 * length (present_in jobs)) → ((number ≡ 0 → ⊥) → written ≡ 0) → written ≡ length (searched (normal_form table) budget).bytes
+  written_length budget = means (searched_comes (normalisable held) budget)
     where
-      means : {o : Outcome} → Comes table budget o → o.number ≡ 0 → 12 * length (present_in jobs) ≡ length o.bytes
-      means (spent h) e = absurd (omega arith)
-      means (nothing h impossible) e = absurd (omega arith)
-      means (given {q} h f) e = omega (arith, counted held, first_length (normalisable held) q f)
-
-  -- and any other nothing
-  pub no_slots : (budget : ℕ) → ((searched (normal_form table) budget).number ≡ 0 → ⊥) → 0 ≡ length (searched (normal_form table) budget).bytes
-  no_slots budget = means (searched_comes (normalisable held) budget)
-    where
-      means : {o : Outcome} → Comes table budget o → (o.number ≡ 0 → ⊥) → 0 ≡ length o.bytes
-      means (spent h) e = refl
-      means (nothing h impossible) e = refl
-      means (given h f) e = absurd (e refl)
+      means : {o : Outcome} → Comes table budget o → {number written : ℕ} → number ≡ o.number
+          → (number ≡ 0 → written ≡ 12 * length (present_in jobs)) → ((number ≡ 0 → ⊥) → written ≡ 0) → written ≡ length o.bytes
+      means (spent h) e all none = none (λ z. omega (arith, e))
+      means (nothing h impossible) e all none = none (λ z. omega (arith, e))
+      means (given {q} h f) e all none = omega (arith, all e, counted held, first_length (normalisable held) q f)

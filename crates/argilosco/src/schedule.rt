@@ -1,5 +1,6 @@
 // Scheduling a job table.
 ghost use Rattle.std.specs.Prelude.{◌≡◌};
+ghost use Rattle.search.specs.State.{number_of, openings_of};
 ghost use Rattle.argilosco.specs.Promise.{SchedulePromise};
 
 use crate::Scheduled;
@@ -10,7 +11,7 @@ use normal::form::{tightened, turned};
 use normal::gaps::{gaps, ring_in};
 use normal::tighten::{no_starts, windows};
 use normal::write::count_jobs;
-use search::search;
+use search::{Found, search};
 
 // Refused before any search: the number, no bytes written and no openings.
 fn refused(number: u32) -> Scheduled
@@ -20,6 +21,25 @@ fn refused(number: u32) -> Scheduled
         number,
         written: 0,
         openings: 0,
+    }
+}
+
+// What the call answers once it has searched: the search's number and openings, and the room for the slots where they were written.
+fn answered(found: Found, room: u32) -> Scheduled
+    ensures number { result.number ≡ number_of found }
+    ensures openings { result.openings ≡ openings_of found }
+    ensures written { number_of found ≡ 0 → result.written ≡ room }
+    ensures nothing_written { (number_of found ≡ 0 → ⊥) → result.written ≡ 0 }
+{
+    let (number, written, openings) = match found {
+        Found::Schedule { openings } => (0, room, openings),
+        Found::Nothing { openings } => (10, 0, openings),
+        Found::Spent { openings } => (11, 0, openings),
+    };
+    Scheduled {
+        number,
+        written,
+        openings,
     }
 }
 
@@ -48,18 +68,5 @@ pub fn argilosco_schedule(jobs: &[u8], budget: u32, out: &mut [u8]) -> Scheduled
     let tight = windows(held, square);
     let into = turned(choose(held, tight, square));
     let found = search(tightened(held, tight), &into, budget, out);
-    let answer = found.number;
-    let openings = found.openings;
-    if answer != 0 {
-        return Scheduled {
-            number: answer,
-            written: 0,
-            openings,
-        };
-    }
-    Scheduled {
-        number: 0,
-        written: room as u32,
-        openings,
-    }
+    answered(found, room as u32)
 }

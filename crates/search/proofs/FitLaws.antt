@@ -2,34 +2,34 @@
 -- A loop that has come to number m keeps what it has found of the numbers below m; what it is still to find speaks of the numbers from m on.
 use Prim.Native.Nat.{ℕ, ◌+◌, ◌-◌, ◌≤◌, ◌<◌, max}
 use native.Mathlib.Omega.{arith}
-use mathlib.Core.Path.{◌≡◌, sym, ap, ◌∙◌}
+use mathlib.Core.Path.{◌≡◌, refl, sym, ap, ◌∙◌}
 use mathlib.Core.Bool.{Bool, true, false, cond, not, ◌&&◌}
 use mathlib.Core.List.{List, ◌∷◌, map}
-use lib.Dec.{leb, ltb}
-use borrow.Author.Tests.{eq-eqb, ne_eqb, le-ltb, lt-ltb, le-leb, lt-leb}
+use lib.Dec.{leb, ltb, eqb}
+use borrow.Author.Tests.{eq-eqb, ne_eqb, eqb-true, eqb-false, not-true, not-false, le-ltb, lt-ltb, le-leb, lt-leb}
 use Rattle.laws.specs.Lists.{all, largest, total}
 use Rattle.laws.proofs.Scanning.{keep_taken, keep_left, keep_none}
 use Rattle.laws.proofs.Keeping.{keep_from, keep_start}
-use Rattle.search.specs.declared.fit.Start.{Start}
-use Rattle.search.specs.declared.fit.Start.TheVariants.{At, NotYet}
-use Rattle.search.specs.declared.fit.Next.TheVariants.{Ends, Not}
-use Rattle.search.specs.State.{at, is_placed, linked, start_at, StartBelow, remains_after, left, fits_after, together_after, rest_fits, ends_at, opens_at}
+use Rattle.std.specs.Prelude.{Option, Some, None}
+use Rattle.std.specs.Option.{option_eq}
+use Rattle.laws.proofs.Members.{true_not_false}
+use Rattle.search.specs.State.{number_or_none, at, is_placed, linked, start_at, remains_after, left, fits_after, together_after, rest_fits, ends_at, opens_at}
 
 -- `start_after`: with what the links from the jobs below i allow in t, the links from the jobs from i on are still to be seen
 module _ (row : List ℕ) (placed : List Bool) (ends : List ℕ) (limit : ℕ) where
   abbrev is_linked : ℕ → Bool
   is_linked i = ltb 0 (at row i)
 
-  unfoldable pub start_from : ℕ → ℕ → Start
+  unfoldable pub start_from : ℕ → ℕ → Option ℕ
   start_from t i = start_at row placed ends t (keep_from is_linked i limit)
 
   pub start_start : (t : ℕ) → start_from t 0 ≡ start_at row placed ends t (linked row limit)
   unfolding start_from linked
   start_start t = ap (start_at row placed ends t) (keep_start is_linked limit)
 
-  pub start_end : (t i : ℕ) → limit ≤ i → At t ≡ start_from t i
+  pub start_end : (t i : ℕ) → limit ≤ i → Some t ≡ start_from t i
   unfolding start_from start_at
-  start_end t i h = rw (keep_none is_linked i limit h) (ap At (omega arith))
+  start_end t i h = rw (keep_none is_linked i limit h) (ap Some (omega arith))
 
   start_more : (t i : ℕ) (from : List ℕ) → is_placed placed i ≡ true → start_at row placed ends (max t (at ends i + (at row i - 1))) from ≡ start_at row placed ends t (i ∷ from)
   unfolding start_at
@@ -43,7 +43,7 @@ module _ (row : List ℕ) (placed : List Bool) (ends : List ℕ) (limit : ℕ) w
     unfolding start_from
     start_skip t' kept none = rw kept (ap (start_at row placed ends t) (sym (keep_left is_linked i limit below (le-ltb 0 (at row i) (omega arith)))))
 
-    pub start_not : (latency ≡ 0 → ⊥) → is_placed placed i ≡ false → NotYet ≡ start_from t i
+    pub start_not : (latency ≡ 0 → ⊥) → is_placed placed i ≡ false → None ≡ start_from t i
     unfolding start_from start_at
     start_not some e = rw (keep_taken is_linked i limit below (lt-ltb 0 (at row i) (omega arith)), e)
 
@@ -53,15 +53,37 @@ module _ (row : List ℕ) (placed : List Bool) (ends : List ℕ) (limit : ℕ) w
         rw (raised, ended, read)
         (start_more t i (keep_from is_linked (i + 1) limit) e ∙ ap (start_at row placed ends t) (sym (keep_taken is_linked i limit below (lt-ltb 0 (at row i) (omega arith)))))
 
--- `remains`
-module _ (placed : List Bool) (k m : ℕ) where
-  pub remains_same : m ≡ k → false ≡ remains_after placed k m
-  unfolding remains_after
-  remains_same h = rw (eq-eqb m k h)
+-- whether job m remains after the last job, if there is one: it has another number, as the code tells, and has not run
+module _ (placed : List Bool) (last_job : Option ℕ) (m : ℕ) where
+  abbrev other : Bool
+  other = not (option_eq eqb last_job (Some m))
 
-  pub remains_other : (m ≡ k → ⊥) → not (is_placed placed m) ≡ remains_after placed k m
+  abbrev remains : Bool
+  remains = remains_after placed (number_or_none last_job) m
+
+  pub remains_placed : is_placed placed m ≡ true → remains ≡ false
   unfolding remains_after
-  remains_other h = rw (ne_eqb m k h)
+  remains_placed e = rw e (and_false (not (eqb m (number_or_none last_job))))
+    where
+      and_false : (b : Bool) → (b && false) ≡ false
+      and_false true = refl
+      and_false false = refl
+
+  pub remains_same : false ≡ other → remains ≡ false
+  unfolding remains_after
+  remains_same e = step last_job e
+    where
+      step : (o : Option ℕ) → false ≡ not (option_eq eqb o (Some m)) → remains_after placed (number_or_none o) m ≡ false
+      step None h = absurd (true_not_false refl (sym h))
+      step (Some k) h = rw (eq-eqb m k (sym (eqb-true k m (not-false (eqb k m) (sym h)))))
+
+  pub remains_other : m < 48 → true ≡ other → is_placed placed m ≡ false → remains ≡ true
+  unfolding remains_after
+  remains_other below e f = rw (ne_eqb m (number_or_none last_job) (step last_job e), f)
+    where
+      step : (o : Option ℕ) → true ≡ not (option_eq eqb o (Some m)) → m ≡ number_or_none o → ⊥
+      step None h = λ z. omega arith
+      step (Some k) h = λ z. eqb-false k m (not-true (eqb k m) (sym h)) (sym z)
 
 -- `rest_fits`: with the costs of the jobs below m that remain and their largest deadline, those from m on are still to be seen
 module _ (cost release deadline : List ℕ) (limit : ℕ) (placed : List Bool) (k t : ℕ) where
@@ -107,7 +129,7 @@ module _ (cost release deadline : List ℕ) (limit : ℕ) (placed : List Bool) (
         rw (keep_taken (remains_after placed k) m limit below e, f, p, q, costing, due, z, y)
 
 -- the last line of `rest_fits`
-pub together_none : (t costs last : ℕ) → costs ≡ 0 → true ≡ together_after t costs last
+pub together_none : (t costs last : ℕ) → costs ≡ 0 → eqb costs 0 ≡ together_after t costs last
 unfolding together_after
 together_none t costs last e = rw (eq-eqb costs 0 e)
 
@@ -116,48 +138,54 @@ unfolding together_after
 together_some t costs last e = rw (ne_eqb costs 0 e)
 
 -- `opens_at`
-pub start_below : (bound t : ℕ) (s : Start) → s ≡ At t → StartBelow bound s → t < bound
-start_below bound t s e h = rw e at h
-
 module _ (cost release deadline row : List ℕ) (limit : ℕ) (placed : List Bool) (ends : List ℕ) (free k : ℕ) where
-  pub opens_placed : is_placed placed k ≡ true → Not ≡ opens_at cost release deadline row limit placed ends free k
+  pub opens_placed : is_placed placed k ≡ true → None ≡ opens_at cost release deadline row limit placed ends free k
   unfolding opens_at
   opens_placed e = rw e
 
-  module _ (first f r : ℕ) (s : Start) (fresh : is_placed placed k ≡ false) (later : first ≡ max f r) (freed : f ≡ free) (released : r ≡ at release k)
-      (started : s ≡ start_at row placed ends first (linked row limit)) where
-    opens_ends : opens_at cost release deadline row limit placed ends free k ≡ ends_at cost release deadline limit placed k s
+  module _ (first f r : ℕ) (fresh : is_placed placed k ≡ false) (later : first ≡ max f r) (freed : f ≡ free) (released : r ≡ at release k) where
+    abbrev start : Option ℕ
+    start = start_at row placed ends first (linked row limit)
+
+    opens_ends : opens_at cost release deadline row limit placed ends free k ≡ ends_at cost release deadline limit placed k start
     unfolding opens_at
-    opens_ends = rw (fresh, started, later, freed, released)
+    opens_ends = rw (fresh, later, freed, released)
 
-    pub opens_not_yet : s ≡ NotYet → Not ≡ opens_at cost release deadline row limit placed ends free k
+    pub opens_not_yet : None ≡ start → None ≡ opens_at cost release deadline row limit placed ends free k
     unfolding ends_at
-    opens_not_yet e = rw (opens_ends, e)
+    opens_not_yet e = rw (opens_ends, ← e)
 
-    module _ (t c d : ℕ) (known : s ≡ At t) (costing : c ≡ at cost k) (due : d ≡ at deadline k) where
-      pub opens_late : d < t + c → Not ≡ opens_at cost release deadline row limit placed ends free k
+    module _ (t c d : ℕ) (known : Some t ≡ start) (costing : c ≡ at cost k) (due : d ≡ at deadline k) where
+      pub opens_late : d < t + c → None ≡ opens_at cost release deadline row limit placed ends free k
       unfolding ends_at
-      opens_late h = rw (opens_ends, known, ← costing, ← due, lt-leb (t + c) d h)
+      opens_late h = rw (opens_ends, ← known, ← costing, ← due, lt-leb (t + c) d h)
 
       module _ (fits : Bool) (on_time : t + c ≤ d) (tested : fits ≡ rest_fits cost release deadline limit placed k (t + c)) where
-        pub opens_unfit : fits ≡ false → Not ≡ opens_at cost release deadline row limit placed ends free k
+        pub opens_unfit : fits ≡ false → None ≡ opens_at cost release deadline row limit placed ends free k
         unfolding ends_at
-        opens_unfit e = rw (opens_ends, known, ← costing, ← due, le-leb (t + c) d on_time, ← tested, e)
+        opens_unfit e = rw (opens_ends, ← known, ← costing, ← due, le-leb (t + c) d on_time, ← tested, e)
 
-        pub opens_fit : fits ≡ true → Ends (t + c) ≡ opens_at cost release deadline row limit placed ends free k
+        pub opens_fit : fits ≡ true → Some (t + c) ≡ opens_at cost release deadline row limit placed ends free k
         unfolding ends_at
-        opens_fit e = rw (opens_ends, known, ← costing, ← due, le-leb (t + c) d on_time, ← tested, e)
+        opens_fit e = rw (opens_ends, ← known, ← costing, ← due, le-leb (t + c) d on_time, ← tested, e)
 
   -- a job that may come next ends after its cost at the earliest
-  pub opens_cost : (e : ℕ) → opens_at cost release deadline row limit placed ends free k ≡ Ends e → at cost k ≤ e
+  pub opens_cost : (e : ℕ) → opens_at cost release deadline row limit placed ends free k ≡ Some e → at cost k ≤ e
   unfolding opens_at ends_at
   opens_cost e h = step (is_placed placed k) (start_at row placed ends (max free (at release k)) (linked row limit)) h
     where
-      ended : (t : ℕ) (b : Bool) → cond b (Ends (t + at cost k)) Not ≡ Ends e → at cost k ≤ e
+      ended : (t : ℕ) (b : Bool) → cond b (Some (t + at cost k)) None ≡ Some e → at cost k ≤ e
       ended t true g = let same : t + at cost k ≡ e = cc in omega arith
       ended t false g = let z : ◌≡◌ {A = ℕ} 0 1 = cc in absurd (omega arith)
 
-      step : (b : Bool) (s : Start) → cond b Not (ends_at cost release deadline limit placed k s) ≡ Ends e → at cost k ≤ e
+      step : (b : Bool) (s : Option ℕ) → cond b None (ends_at cost release deadline limit placed k s) ≡ Some e → at cost k ≤ e
       step true s g = let z : ◌≡◌ {A = ℕ} 0 1 = cc in absurd (omega arith)
-      step false NotYet g = let z : ◌≡◌ {A = ℕ} 0 1 = cc in absurd (omega arith)
-      step false (At t) g = ended t (leb (t + at cost k) (at deadline k) && rest_fits cost release deadline limit placed k (t + at cost k)) g
+      step false None g = let z : ◌≡◌ {A = ℕ} 0 1 = cc in absurd (omega arith)
+      step false (Some t) g = ended t (leb (t + at cost k) (at deadline k) && rest_fits cost release deadline limit placed k (t + at cost k)) g
+
+-- what `start_after`, `rest_fits` and `opens_at` are proved by
+pub ruleset start_laws = (start_start, start_end, start_skip, start_not, start_on)
+
+pub ruleset rest_laws = (rest_start, rest_end, rest_skip, rest_not, rest_on, remains_placed, remains_same, remains_other, together_none, together_some)
+
+pub ruleset opens_laws = (opens_placed, opens_not_yet, opens_late, opens_unfit, opens_fit)

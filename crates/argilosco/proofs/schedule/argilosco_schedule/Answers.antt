@@ -2,14 +2,14 @@
 -- and past the last of them the code holds the table's square of gaps, so that the search is handed its normal form. Assumes nothing.
 use Prim.Native.Nat.{◌*◌}
 use native.Mathlib.Omega.{arith}
-use mathlib.Core.Path.{refl, sym, ap, ◌∙◌}
+use mathlib.Core.Path.{sym, ap, ◌∙◌}
 use Rattle.normal.specs.Arrays.{ceiling}
 use Rattle.normal.proofs.Ceiling.{capped_within}
 use Rattle.normal.proofs.Held.{normalisable}
 use Rattle.normal.proofs.NormalSound.{normal_sound}
 use Rattle.normal.proofs.FormHeld.{ends_fit, writable}
 use Rattle.argilosco.proofs.Passing.{formed, made, held}
-use Rattle.argilosco.proofs.Scheduling.{schedule_refused, schedule_searched, jobs_scheduled, ring_scheduled, starts_scheduled, room_scheduled, begun_scheduled, form_counted, into_given, slots_length, no_slots}
+use Rattle.argilosco.proofs.Scheduling.{schedule_refused, schedule_searched, jobs_scheduled, ring_scheduled, starts_scheduled, room_scheduled, begun_scheduled, form_counted, into_given, written_length}
 use Rattle.argilosco.proofs.schedule.argilosco_schedule.Goals as goal
 
 pub returns-then-number-ne0 : goal.returns-then-number-ne0
@@ -61,15 +61,6 @@ search-found-requires c =
     let tight = c.tightened.ensures _ _ holds (c.windows-tight.ensures _ holds) in
     omega (arith, form_counted holds tight, c.count_jobs-room.ensures.1)
 
-pub returns-then-answer-ne0 : goal.returns-then-answer-ne0
-returns-then-answer-ne0 c =
-    let well = formed c.judge-judged.ensures c.if-number-ne0.false in
-    let holds = held c.judge-judged.ensures c.if-number-ne0.false c.load_links.ensures c.gaps-square.ensures c.ring_in.ensures c.if-ring_in.false c.no_starts.ensures c.if-no_starts.false in
-    let begun = begun_scheduled well holds _ (omega (arith, c.count_jobs-room.ensures.1)) in
-    let same = c.windows-tight.ensures _ holds in
-    let answers = c.search-found.ensures _ (normal_sound (normalisable holds)) (c.tightened.ensures _ _ holds same) (into_given holds _ same c.choose.ensures c.turned-into.ensures) in
-    schedule_searched _ _ _ begun answers refl refl (no_slots holds _ (λ e. c.if-answer-ne0.true (answers.number ∙ e)))
-
 pub returns : goal.returns
 returns c =
     let well = formed c.judge-judged.ensures c.if-number-ne0.false in
@@ -77,4 +68,5 @@ returns c =
     let begun = begun_scheduled well holds _ (omega (arith, c.count_jobs-room.ensures.1)) in
     let same = c.windows-tight.ensures _ holds in
     let answers = c.search-found.ensures _ (normal_sound (normalisable holds)) (c.tightened.ensures _ _ holds same) (into_given holds _ same c.choose.ensures c.turned-into.ensures) in
-    schedule_searched _ _ _ begun answers (sym c.if-answer-ne0.false) refl (ap (λ n. 12 * n) c.count_jobs-room.ensures.1 ∙ slots_length holds _ (sym answers.number ∙ c.if-answer-ne0.false))
+    schedule_searched _ _ _ begun answers c.answered.ensures.number c.answered.ensures.openings
+    (written_length holds _ answers.number (λ z. c.answered.ensures.written z ∙ ap (λ n. 12 * n) c.count_jobs-room.ensures.1) c.answered.ensures.nothing_written)
