@@ -6,6 +6,7 @@ ghost use Rattle.search.specs.State.{at, place_at, slots_in, HaveRun, given_of, 
 use crate::problem::Problem;
 use crate::{Found, State};
 use records::Slot;
+use records::write::write;
 
 impl State {
     // The state with job k run next, at the place `depth`, until `end`.
@@ -37,7 +38,7 @@ impl<'a> Problem<'a> {
             let k = usize::from(number);
             let end = s.ends[k];
             let start = end - self.jobs.cost[k];
-            records::write::write_slot(out, i, Slot { number, start, end });
+            write(out, i, Slot { number, start, end });
         }
     }
 
