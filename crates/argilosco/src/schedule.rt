@@ -1,28 +1,18 @@
 // Scheduling a job table.
-ghost use Rattle.std.specs.Prelude.{◌≡◌};
+ghost use Rattle.std.specs.Prelude.{◌≡◌, length};
 ghost use Rattle.search.specs.State.{number_of, openings_of};
+ghost use Rattle.search.specs.Call.{scheduled};
 ghost use Rattle.argilosco.specs.Promise.{SchedulePromise};
+ghost use Rattle.argilosco.specs.Answer.{Schedules};
 
 use crate::Scheduled;
-use jobs::judge::judge;
-use jobs::load::load_links;
+use crate::hold::hold;
 use normal::choose::choose;
 use normal::form::{tightened, turned};
-use normal::gaps::{gaps, ring_in};
-use normal::tighten::{no_starts, windows};
+use normal::tighten::windows;
 use normal::write::count_jobs;
+use records::refusal::Refusal;
 use search::{Found, search};
-
-// Refused before any search: the number, no bytes written and no openings.
-fn refused(number: u32) -> Scheduled
-    ensures { (result.number ≡ number) × (result.written ≡ 0) × (result.openings ≡ 0) }
-{
-    Scheduled {
-        number,
-        written: 0,
-        openings: 0,
-    }
-}
 
 // What the call answers once it has searched: the search's number and openings, and the room for the slots where they were written.
 fn answered(found: Found, room: u32) -> Scheduled
@@ -43,30 +33,24 @@ fn answered(found: Found, room: u32) -> Scheduled
     }
 }
 
+// What a search of the table's normal form answers, its slots written to the start of the output. It is begun only where there is room for a slot of each job.
+fn schedule(jobs: &[u8], budget: u32, out: &mut [u8]) -> Result<Scheduled, Refusal>
+    ensures { Schedules (scheduled jobs.now budget (length out.old)) out.old result out.new }
+{
+    let held = hold(jobs)?;
+    let room = 12 * count_jobs(held.jobs);
+    if out.len() < room {
+        return Err(Refusal::NoRoom);
+    }
+    let tight = windows(held.jobs, held.square);
+    let into = turned(choose(held.jobs, tight, held.square));
+    let found = search(tightened(held.jobs, tight), &into, budget, out);
+    Ok(answered(found, room as u32))
+}
+
 // The table's schedule, written to the start of the output; or the lowest of 1 to 5 and 7 to 11 that holds, and nothing written.
-// The search is on the normal form, and is begun only where there is room for a slot of each job.
 pub fn argilosco_schedule(jobs: &[u8], budget: u32, out: &mut [u8]) -> Scheduled
     ensures { SchedulePromise jobs.now budget out.old result out.new }
 {
-    let judged = judge(jobs);
-    let number = judged.number;
-    if number != 0 {
-        return refused(number);
-    }
-    let held = judged.jobs;
-    let square = gaps(held, load_links(jobs));
-    if ring_in(square) {
-        return refused(7);
-    }
-    if no_starts(held, square) {
-        return refused(8);
-    }
-    let room = 12 * count_jobs(held);
-    if out.len() < room {
-        return refused(9);
-    }
-    let tight = windows(held, square);
-    let into = turned(choose(held, tight, square));
-    let found = search(tightened(held, tight), &into, budget, out);
-    answered(found, room as u32)
+    Scheduled::from(schedule(jobs, budget, out))
 }
