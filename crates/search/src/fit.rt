@@ -38,7 +38,7 @@ impl<'a> Problem<'a> {
 
     // The jobs that remain after the last one, if there is one, fit after the time t: each by itself, and all together.
     // Costs are above 0, so that their sum is 0 where none remain.
-    #[tactic(auto, using(crate::proofs::FitLaws::rest_laws))]
+    #[tactic(auto, using(crate::proofs::FitLaws::rest_laws), unfolding(crate::specs::State::together_after))]
     pub fn rest_fits(&self, placed: &[bool; 48], last_job: Option<usize>, t: u32) -> bool
         requires { t < 65536 }
         ensures { result ≡ rest_after (given_of self.now) placed.now (number_or_none last_job) t }
@@ -58,7 +58,7 @@ impl<'a> Problem<'a> {
     }
 
     // When job k ends, if it may come next and what it makes of the sequence is live.
-    #[tactic(auto, using(crate::proofs::FitLaws::opens_laws))]
+    #[tactic(auto, unfolding(crate::specs::State::opens_at, crate::specs::State::ends_at))]
     pub fn opens_at(&self, s: &State, k: usize) -> Option<u16>
         requires { k < 48 }
         ensures { result ≡ next_at (given_of self.now) s.now k }
