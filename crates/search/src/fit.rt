@@ -1,6 +1,6 @@
 // The test for live: when a job could start next, and whether the jobs that remain fit after it.
-ghost use Rattle.std.specs.Prelude.{◌≡◌, ◌<◌};
-ghost use Rattle.search.specs.State.{given_of, start_next, StartBelow, fits_after, rest_after, number_or_none, next_at};
+ghost use Rattle.std.specs.Prelude.{◌≡◌, ◌<◌, IfSome};
+ghost use Rattle.search.specs.State.{given_of, start_next, fits_after, rest_after, number_or_none, next_at};
 
 use crate::State;
 use crate::problem::Problem;
@@ -11,7 +11,7 @@ impl<'a> Problem<'a> {
     fn start_after(&self, s: &State, k: usize, first: u32) -> Option<u32>
         requires { (k < 48) × (first < 131072) }
         ensures value { result ≡ start_next (given_of self.now) s.now k first }
-        ensures start_below { StartBelow 131072 result }
+        ensures start_below { IfSome result (λ start. start < 131072) }
     {
         let mut start = first;
         for i in 0..self.limit {
