@@ -6,13 +6,13 @@ use mathlib.Core.Path.{◌≡◌, refl, sym, ap, ◌∙◌}
 use mathlib.Core.Bool.{Bool, true, false, cond, not, ◌&&◌}
 use mathlib.Core.List.{List, ◌∷◌, map}
 use lib.Dec.{leb, ltb, eqb}
-use borrow.Author.Tests.{eq-eqb, ne_eqb, eqb-true, eqb-false, not-true, not-false, le-ltb, lt-ltb, le-leb, lt-leb}
+use borrow.Author.Tests.{eq-eqb, ne_eqb, eqb-true, le-ltb, lt-ltb}
 use Rattle.laws.specs.Lists.{all, largest, total}
+use Rattle.laws.proofs.Members.{same_test}
 use Rattle.laws.proofs.Scanning.{keep_taken, keep_left, keep_none}
 use Rattle.laws.proofs.Keeping.{keep_from, keep_start}
 use Rattle.std.specs.Prelude.{Option, Some, None}
 use Rattle.std.specs.Option.{option_eq}
-use Rattle.laws.proofs.Members.{true_not_false}
 use Rattle.search.specs.State.{number_or_none, at, is_placed, linked, start_at, remains_after, left, fits_after, together_after, rest_fits, ends_at, opens_at}
 
 -- `start_after`: with what the links from the jobs below i allow in t, the links from the jobs from i on are still to be seen
@@ -53,37 +53,15 @@ module _ (row : List ℕ) (placed : List Bool) (ends : List ℕ) (limit : ℕ) w
         rw (raised, ended, read)
         (start_more t i (keep_from is_linked (i + 1) limit) e ∙ ap (start_at row placed ends t) (sym (keep_taken is_linked i limit below (lt-ltb 0 (at row i) (omega arith)))))
 
--- whether job m remains after the last job, if there is one: it has another number, as the code tells, and has not run
-module _ (placed : List Bool) (last_job : Option ℕ) (m : ℕ) where
-  abbrev other : Bool
-  other = not (option_eq eqb last_job (Some m))
-
-  abbrev remains : Bool
-  remains = remains_after placed (number_or_none last_job) m
-
-  pub remains_placed : is_placed placed m ≡ true → remains ≡ false
-  unfolding remains_after
-  remains_placed e = rw e (and_false (not (eqb m (number_or_none last_job))))
-    where
-      and_false : (b : Bool) → (b && false) ≡ false
-      and_false true = refl
-      and_false false = refl
-
-  pub remains_same : false ≡ other → remains ≡ false
-  unfolding remains_after
-  remains_same e = step last_job e
-    where
-      step : (o : Option ℕ) → false ≡ not (option_eq eqb o (Some m)) → remains_after placed (number_or_none o) m ≡ false
-      step None h = absurd (true_not_false refl (sym h))
-      step (Some k) h = rw (eq-eqb m k (sym (eqb-true k m (not-false (eqb k m) (sym h)))))
-
-  pub remains_other : m < 48 → true ≡ other → is_placed placed m ≡ false → remains ≡ true
-  unfolding remains_after
-  remains_other below e f = rw (ne_eqb m (number_or_none last_job) (step last_job e), f)
-    where
-      step : (o : Option ℕ) → true ≡ not (option_eq eqb o (Some m)) → m ≡ number_or_none o → ⊥
-      step None h = λ z. omega arith
-      step (Some k) h = λ z. eqb-false k m (not-true (eqb k m) (sym h)) (sym z)
+-- whether job m remains after the last job, if there is one, as the code tells
+pub remains_told : (placed : List Bool) (last_job : Option ℕ) (m : ℕ) → m < 48
+    → remains_after placed (number_or_none last_job) m ≡ (not (option_eq eqb last_job (Some m)) && not (is_placed placed m))
+unfolding remains_after
+remains_told placed None m below = rw (ne_eqb m 48 (λ e. omega arith)) refl
+remains_told placed (Some k) m below = ap (λ t. not t && not (is_placed placed m)) (same_test (eqb m k) (eqb k m) (turn m k, turn k m))
+  where
+    turn : (i j : ℕ) → eqb i j ≡ true → eqb j i ≡ true
+    turn i j e = eq-eqb j i (sym (eqb-true i j e))
 
 -- `rest_fits`: with the costs of the jobs below m that remain and their largest deadline, those from m on are still to be seen
 module _ (cost release deadline : List ℕ) (limit : ℕ) (placed : List Bool) (k t : ℕ) where
@@ -128,47 +106,8 @@ module _ (cost release deadline : List ℕ) (limit : ℕ) (placed : List Bool) (
         let y : max (max last (at deadline m)) (largest (map (at deadline) others)) ≡ max last (max (at deadline m) (largest (map (at deadline) others))) = omega arith in
         rw (keep_taken (remains_after placed k) m limit below e, f, p, q, costing, due, z, y)
 
--- the last line of `rest_fits`
-pub together_none : (t costs last : ℕ) → costs ≡ 0 → eqb costs 0 ≡ together_after t costs last
-unfolding together_after
-together_none t costs last e = rw (eq-eqb costs 0 e)
-
-pub together_some : (t costs last : ℕ) → (costs ≡ 0 → ⊥) → leb (t + costs) last ≡ together_after t costs last
-unfolding together_after
-together_some t costs last e = rw (ne_eqb costs 0 e)
-
 -- `opens_at`
 module _ (cost release deadline row : List ℕ) (limit : ℕ) (placed : List Bool) (ends : List ℕ) (free k : ℕ) where
-  pub opens_placed : is_placed placed k ≡ true → None ≡ opens_at cost release deadline row limit placed ends free k
-  unfolding opens_at
-  opens_placed e = rw e
-
-  module _ (first f r : ℕ) (fresh : is_placed placed k ≡ false) (later : first ≡ max f r) (freed : f ≡ free) (released : r ≡ at release k) where
-    abbrev start : Option ℕ
-    start = start_at row placed ends first (linked row limit)
-
-    opens_ends : opens_at cost release deadline row limit placed ends free k ≡ ends_at cost release deadline limit placed k start
-    unfolding opens_at
-    opens_ends = rw (fresh, later, freed, released)
-
-    pub opens_not_yet : None ≡ start → None ≡ opens_at cost release deadline row limit placed ends free k
-    unfolding ends_at
-    opens_not_yet e = rw (opens_ends, ← e)
-
-    module _ (t c d : ℕ) (known : Some t ≡ start) (costing : c ≡ at cost k) (due : d ≡ at deadline k) where
-      pub opens_late : d < t + c → None ≡ opens_at cost release deadline row limit placed ends free k
-      unfolding ends_at
-      opens_late h = rw (opens_ends, ← known, ← costing, ← due, lt-leb (t + c) d h)
-
-      module _ (fits : Bool) (on_time : t + c ≤ d) (tested : fits ≡ rest_fits cost release deadline limit placed k (t + c)) where
-        pub opens_unfit : fits ≡ false → None ≡ opens_at cost release deadline row limit placed ends free k
-        unfolding ends_at
-        opens_unfit e = rw (opens_ends, ← known, ← costing, ← due, le-leb (t + c) d on_time, ← tested, e)
-
-        pub opens_fit : fits ≡ true → Some (t + c) ≡ opens_at cost release deadline row limit placed ends free k
-        unfolding ends_at
-        opens_fit e = rw (opens_ends, ← known, ← costing, ← due, le-leb (t + c) d on_time, ← tested, e)
-
   -- a job that may come next ends after its cost at the earliest
   pub opens_cost : (e : ℕ) → opens_at cost release deadline row limit placed ends free k ≡ Some e → at cost k ≤ e
   unfolding opens_at ends_at
@@ -183,9 +122,7 @@ module _ (cost release deadline row : List ℕ) (limit : ℕ) (placed : List Boo
       step false None g = let z : ◌≡◌ {A = ℕ} 0 1 = cc in absurd (omega arith)
       step false (Some t) g = ended t (leb (t + at cost k) (at deadline k) && rest_fits cost release deadline limit placed k (t + at cost k)) g
 
--- what `start_after`, `rest_fits` and `opens_at` are proved by
+-- what `start_after` and `rest_fits` are proved by
 pub ruleset start_laws = (start_start, start_end, start_skip, start_not, start_on)
 
-pub ruleset rest_laws = (rest_start, rest_end, rest_skip, rest_not, rest_on, remains_placed, remains_same, remains_other, together_none, together_some)
-
-pub ruleset opens_laws = (opens_placed, opens_not_yet, opens_late, opens_unfit, opens_fit)
+pub ruleset rest_laws = (rest_start, rest_end, rest_skip, rest_not, rest_on, remains_told)

@@ -32,11 +32,6 @@ unfoldable pub start_at : List ℕ → List Bool → List ℕ → ℕ → List �
 start_at row placed ends first from =
     cond (all (is_placed placed) from) (Some (max first (largest (map (λ i. at ends i + (at row i - 1)) from)))) None
 
--- a start is below a bound, if there is one
-abbrev pub StartBelow : ℕ → Option ℕ → Type 0
-StartBelow bound (Some t) = t < bound
-StartBelow bound None = Unit {0}
-
 -- a job remains after job k: it has not run, and is not k
 unfoldable pub remains_after : List Bool → ℕ → ℕ → Bool
 remains_after placed k m = not (eqb m k) && not (is_placed placed m)

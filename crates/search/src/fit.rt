@@ -1,6 +1,6 @@
 // The test for live: when a job could start next, and whether the jobs that remain fit after it.
-ghost use Rattle.std.specs.Prelude.{◌≡◌, ◌<◌};
-ghost use Rattle.search.specs.State.{given_of, start_next, StartBelow, fits_after, rest_after, number_or_none, next_at};
+ghost use Rattle.std.specs.Prelude.{◌≡◌, ◌<◌, IfSome};
+ghost use Rattle.search.specs.State.{given_of, start_next, fits_after, rest_after, number_or_none, next_at};
 
 use crate::State;
 use crate::problem::Problem;
@@ -11,7 +11,7 @@ impl<'a> Problem<'a> {
     fn start_after(&self, s: &State, k: usize, first: u32) -> Option<u32>
         requires { (k < 48) × (first < 131072) }
         ensures value { result ≡ start_next (given_of self.now) s.now k first }
-        ensures start_below { StartBelow 131072 result }
+        ensures start_below { IfSome result (λ start. start < 131072) }
     {
         let mut start = first;
         for i in 0..self.limit {
@@ -38,7 +38,7 @@ impl<'a> Problem<'a> {
 
     // The jobs that remain after the last one, if there is one, fit after the time t: each by itself, and all together.
     // Costs are above 0, so that their sum is 0 where none remain.
-    #[tactic(auto, using(crate::proofs::FitLaws::rest_laws))]
+    #[tactic(auto, using(crate::proofs::FitLaws::rest_laws), unfolding(crate::specs::State::together_after))]
     pub fn rest_fits(&self, placed: &[bool; 48], last_job: Option<usize>, t: u32) -> bool
         requires { t < 65536 }
         ensures { result ≡ rest_after (given_of self.now) placed.now (number_or_none last_job) t }
@@ -58,7 +58,7 @@ impl<'a> Problem<'a> {
     }
 
     // When job k ends, if it may come next and what it makes of the sequence is live.
-    #[tactic(auto, using(crate::proofs::FitLaws::opens_laws))]
+    #[tactic(auto, unfolding(crate::specs::State::opens_at, crate::specs::State::ends_at))]
     pub fn opens_at(&self, s: &State, k: usize) -> Option<u16>
         requires { k < 48 }
         ensures { result ≡ next_at (given_of self.now) s.now k }
