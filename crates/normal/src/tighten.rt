@@ -17,10 +17,7 @@ fn after(time: u16, gap: u32) -> u32
     ensures upper_bound { result < 131072 }
     ensures value { result ≡ windows.after time gap }
 {
-    if gap == 0 {
-        return 0;
-    }
-    u32::from(time) + gap
+    if gap == 0 { 0 } else { u32::from(time) + gap }
 }
 
 // A time less the gap before it, no less than 0, and another time where there is none.
@@ -29,9 +26,10 @@ fn before(other: u16, time: u16, gap: u32) -> u16
     ensures { result ≡ windows.before other time gap }
 {
     if gap == 0 {
-        return other;
+        other
+    } else {
+        time.saturating_sub(gap as u16)
     }
-    time.saturating_sub(gap as u16)
 }
 
 // The jobs of a table and the square of the gaps between them.
@@ -42,7 +40,7 @@ struct SpacedJobs<'a> {
     ghost within: { (i j : ℕ) → cell square.now i j ≤ ceiling },
 }
 
-impl<'a> SpacedJobs<'a> {
+impl SpacedJobs<'_> {
     // The earliest permitted start of job j: its release, and each release of a job that leads to it with the gap between them.
     fn earliest_of(&self, j: usize) -> u32
         requires { j < 48 }

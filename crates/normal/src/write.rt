@@ -22,9 +22,16 @@ pub fn count_jobs(jobs: Jobs) -> usize
 
 // How many links a row holds: a cell that is not 0 holds one.
 fn count_row(row: &[u16; 48]) -> usize
-    ensures { (result ≤ 48) × (result ≡ count_by (λ j. not (slice_index row.now j == 0)) (count 0 48)) }
+    ensures upper_bound { result ≤ 48 }
+    ensures value { result ≡ count_by (λ j. not (slice_index row.now j == 0)) (count 0 48) }
 {
-    row.iter().filter(|cell| **cell != 0).count()
+    let mut count = 0;
+    for cell in row {
+        if *cell != 0 {
+            count += 1;
+        }
+    }
+    count
 }
 
 // How many links are written.

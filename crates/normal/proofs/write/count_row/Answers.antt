@@ -1,16 +1,14 @@
--- `normal::write::count_row` meets its contract: as many cells pass as places. Assumes nothing.
-use mathlib.Core.Path.{◌≡◌}
+-- `normal::write::count_row` meets its contract. The loop's invariant: the links counted are those of the cells so far. Assumes nothing.
+use mathlib.Core.Path.{sym, ap, ◌∙◌}
 use mathlib.Core.Bool.{not}
 use native.Mathlib.Omega.{arith}
-use borrow.Author.Rules.{rules}
 use lib.Dec.{eqb}
+use lib.Seq.{take_all}
 use Rattle.std.specs.List.{count_by}
-use Rattle.std.proofs.lemmas.List.Sums.{count_by-le-length}
 use Rattle.normal.proofs.Counts.{places_counted}
 use Rattle.normal.proofs.write.count_row.Goals as goal
 
-pub returns : goal.returns
-returns c =
+pub returns-clause-value : goal.returns-clause-value
+returns-clause-value c =
     let row = c.args.row.now in
-    let counted : c.count.result ≡ count_by (λ n. not (eqb n 0)) row = search rules in
-    omega (arith, count_by-le-length (λ n. not (eqb n 0)) row, places_counted (λ n. not (eqb n 0)) row 0 (omega arith))
+    c.loop-cell.invariant ∙ ap (count_by (λ n. not (eqb n 0))) (take_all c.loop-cell.cell-index row (omega arith)) ∙ sym (places_counted (λ n. not (eqb n 0)) row 0 (omega arith))
