@@ -55,10 +55,9 @@ module _ (pass : Pass) (first before times : ℕ) (out : List ℕ) {goal : List 
 
 module _ (passes : Passes) (n cycle first : ℕ) where
   -- where there is no pass, no job is written
-  pub no_jobs : get_or passes.present n false ≡ false → (out : List ℕ)
-      → (first ≡ first + job_count cycle (passes_at passes n)) × (out ≡ written job_bytes out first (map J (jobs_from cycle first (passes_at passes n))))
-  unfolding job_count jobs_from
-  no_jobs e out = rw (at_absent passes n e) (omega arith, written_none jobs out first)
+  pub no_jobs : get_or passes.present n false ≡ false → (out : List ℕ) → out ≡ written job_bytes out first (map J (jobs_from cycle first (passes_at passes n)))
+  unfolding jobs_from
+  no_jobs e out = rw (at_absent passes n e) (written_none jobs out first)
 
   module _ (e : get_or passes.present n false ≡ true) {times : ℕ} (here : times ≡ job_count cycle (passes_at passes n)) where
     -- where there is one, its instances are as many as its period goes into the cycle

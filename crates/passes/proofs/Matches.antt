@@ -65,20 +65,13 @@ module _ (e : FlowEnds) (latency : ℕ) where
         step true same = sym (ap length (one_match (sym same)))
         step false same = sym (ap length (no_match (sym same)))
 
-    -- a turn of the loop that counts them
-    pub count_match : (links : ℕ) {next w : ℕ} → before < e.instances → next ≡ links + length (matched e latency (before + 1)) → w ≡ links + length (matched_from e latency before)
-        → w ≡ next + length (matched_from e latency (before + 1))
-    count_match links h on whole =
-        let split = ap length (matched_more h) ∙ length-append (matched e latency (before + 1)) (matched_from e latency (before + 1)) in
-        omega arith
+    -- the links of the instances after some are the next one's and those after it
+    pub count_match : before < e.instances → length (matched_from e latency before) ≡ length (matched e latency (before + 1)) + length (matched_from e latency (before + 1))
+    count_match h = ap length (matched_more h) ∙ length-append (matched e latency (before + 1)) (matched_from e latency (before + 1))
 
-    -- its end
-    pub count_all : (links : ℕ) {w : ℕ} → e.instances ≤ before → w ≡ links + length (matched_from e latency before) → links ≡ w
-    count_all links h whole = let none_left = ap length (matched_end h) in omega arith
-
-    -- an instance has no more links than are left
-    pub match_part : before < e.instances → length (matched e latency (before + 1)) ≤ length (matched_from e latency before)
-    match_part h = omega (arith, ap length (matched_more h), length-append (matched e latency (before + 1)) (matched_from e latency (before + 1)))
+    -- past the last instance there are none
+    pub count_all : e.instances ≤ before → length (matched_from e latency before) ≡ 0
+    count_all h = ap length (matched_end h)
 
     module _ (out : List ℕ) (place : ℕ) where
       -- where it does not match, nothing is written

@@ -19,6 +19,7 @@ fn multiple(a: u32, b: u32) -> Option<u32>
 }
 
 // The least common multiple of a cycle and a period, where it is at most 48,000: of the larger one the fewest multiples are tried.
+#[tactic(auto, using(crate::proofs::Multiples::lcm_comm))]
 fn common(cycle: u32, period: u16) -> Option<u32>
     requires { (0 < cycle) × (cycle ≤ 48000) × (0 < period) }
     ensures { result ≡ within_limit (lcm cycle period) }
@@ -31,6 +32,7 @@ fn common(cycle: u32, period: u16) -> Option<u32>
 }
 
 // A cycle with the period of the pass with a number, if there is one, where it is at most 48,000.
+#[tactic(auto, using(crate::proofs::Ceiling::joined_absent, crate::proofs::Ceiling::joined_present, crate::proofs::Ceiling::period_above))]
 fn joined(cycle: u32, passes: &Passes, number: usize) -> Option<u32>
     requires { (0 < cycle) × (cycle ≤ 48000) × (number < 24) × AllTimely passes.now }
     ensures { result ≡ within_limit (cycle_from cycle (passes_at passes.now number)) }
@@ -42,6 +44,7 @@ fn joined(cycle: u32, passes: &Passes, number: usize) -> Option<u32>
 }
 
 // The cycle of the passes, where it is at most 48,000.
+#[tactic(auto, using(crate::proofs::Numbers::from_none, crate::proofs::Numbers::cycle_from_lem, crate::proofs::Ceiling::cycle_more, crate::proofs::Ceiling::cycle_end, std::proofs::lemmas::Bool::Decides::nat_tests))]
 pub(crate) fn cycle_of(passes: &Passes) -> Option<u32>
     requires { AllTimely passes.now }
     ensures { result ≡ within_limit (cycle_from 1 (in_order passes.now)) }
@@ -64,6 +67,7 @@ pub struct Plan {
 
 impl Plan {
     // How many instances the pass with a number has: none where there is no such pass.
+    #[tactic(auto, using(crate::proofs::Ceiling::instances_absent, crate::proofs::Ceiling::instances_present, crate::proofs::Ceiling::period_above, crate::proofs::Ceiling::instances_small))]
     pub(crate) fn instances_of(&self, number: usize) -> usize
         requires { number < 24 }
         ensures { (result ≡ job_count self.now.cycle (passes_at self.now.passes number)) × (result ≤ 48000) }
@@ -75,6 +79,7 @@ impl Plan {
     }
 
     // How many jobs the passes have.
+    #[tactic(auto, using(crate::proofs::Numbers::from_none, crate::proofs::Numbers::job_count_more, crate::proofs::Numbers::job_count_end))]
     pub(crate) fn job_count(&self) -> usize
         ensures { result ≡ job_count self.now.cycle (in_order self.now.passes) }
     {
@@ -86,6 +91,7 @@ impl Plan {
     }
 
     // The number of the first job of the pass with a number: as many jobs stand before it as the passes of lower number have.
+    #[tactic(auto, using(crate::proofs::Numbers::from_none, crate::proofs::First::first_more, crate::proofs::First::first_end))]
     pub(crate) fn first_job(&self, number: usize) -> usize
         requires { number ≤ 24 }
         ensures { result ≡ first_job self.now.cycle (in_order self.now.passes) number }

@@ -59,6 +59,7 @@ fn write_instances(out: &mut [u8], first: usize, pass: Pass, times: usize)
 }
 
 // The jobs of the pass with a number, if there is one, from the number `first` on: the number of the next job.
+#[tactic(auto, using(crate::proofs::Ceiling::instances_absent, crate::proofs::Instances::no_jobs, crate::proofs::Instances::times_span, crate::proofs::Instances::pass_jobs, crate::proofs::Ceiling::timely))]
 fn write_pass(out: &mut [u8], first: usize, plan: &Plan, number: usize) -> usize
     requires known { number < 24 }
     requires room { let jobs = job_count plan.now.cycle (passes_at plan.now.passes number) in (first + jobs ≤ 48) × (12 * (first + jobs) ≤ length out.old) }
@@ -117,6 +118,7 @@ impl Ends {
     }
 
     // How many links the flow has.
+    #[tactic(auto, using(crate::proofs::Matches::matched_start, crate::proofs::Matches::match_count, crate::proofs::Matches::match_once, crate::proofs::Matches::count_match, crate::proofs::Matches::count_all))]
     fn count(&self) -> usize
         ensures upper_bound { result ≤ 48 }
         ensures by_index { (latency : ℕ) → result ≡ length (matched_links self.now latency) }
@@ -209,6 +211,7 @@ pub fn count_links(s: &[u8], plan: &Plan) -> usize
 }
 
 // The links of a record's flow from a place on: the next place.
+#[tactic(auto, using(crate::proofs::Matches::flow_links_lem, crate::proofs::Matches::pass_links))]
 fn write_record(out: &mut [u8], place: usize, plan: &Plan, r: PassRecord) -> usize
     requires fits { FlowFits plan.now.passes plan.now.cycle r }
     requires room { 12 * (place + length (record_links plan.now.passes plan.now.cycle r)) ≤ length out.old }

@@ -1,6 +1,5 @@
 -- `passes::expand::write_jobs` meets its contract. The loop's invariant: writing the jobs of the passes from `number` on gives what writing those of all gives.
 -- Assumes nothing.
-use Prim.Native.Nat.{◌+◌}
 use native.Mathlib.Nat.{zero-add}
 use native.Mathlib.Omega.{arith}
 use mathlib.Core.Path.{refl, sym, ap, ◌∙◌}
@@ -12,7 +11,7 @@ use Rattle.records.proofs.Codec.{jobs}
 use Rattle.records.proofs.Writing.{written, written_first}
 use Rattle.passes.specs.Expand.{jobs_from, job_count}
 use Rattle.passes.specs.Timely.{in_order}
-use Rattle.passes.proofs.Numbers.{passes_from, from_none, job_count_part, job_count_more}
+use Rattle.passes.proofs.Numbers.{from_none, job_count_more}
 use Rattle.passes.proofs.Instances.{jobs_more, jobs_end}
 use Rattle.passes.proofs.expand.write_jobs.Goals as goal
 
@@ -28,7 +27,7 @@ loop-number-init c =
 pub write_pass-first-requires : goal.write_pass-first-requires
 write_pass-first-requires c =
     let plan = c.args.plan.now in
-    let part = job_count_part plan.passes plan.cycle c.loop-number.number c.loop-number-test.true in record {
+    let part = job_count_more plan.passes plan.cycle c.loop-number.number c.loop-number-test.true in record {
       known = search rules;
       room = (omega arith, omega arith);
     }
@@ -37,10 +36,10 @@ pub loop-number-preserved : goal.loop-number-preserved
 loop-number-preserved c =
     let plan = c.args.plan.now in
     let turn = c.loop-number in
-    let part = job_count_part plan.passes plan.cycle turn.number c.loop-number-test.true in
+    let part = job_count_more plan.passes plan.cycle turn.number c.loop-number-test.true in
     let wrote = c.write_pass-first in (
       wrote.auto.out ∙ turn.invariant.0,
-      job_count_more plan.passes plan.cycle turn.number turn.first c.loop-number-test.true refl turn.invariant.1 ∙ ap (λ n. n + job_count plan.cycle (passes_from plan.passes (turn.number + 1))) (sym wrote.ensures.value),
+      omega (arith, part, wrote.ensures.value),
       jobs_more plan.passes turn.number plan.cycle turn.first turn.out turn.invariant.2 wrote.result c.loop-number-test.true (omega arith) wrote.ensures.out_after wrote.ensures.value,
     )
 

@@ -8,7 +8,7 @@ use lib.ListN.{length}
 use Rattle.records.specs.Record.{job_bytes}
 use Rattle.records.specs.declared.JobRecord.TheVariants.{L}
 use Rattle.records.proofs.Writing.{written}
-use Rattle.passes.proofs.Matches.{matched_start, match_part, count_match, links_more}
+use Rattle.passes.proofs.Matches.{matched_start, count_match, links_more}
 use Rattle.passes.proofs.expand.Ends.write.Goals as goal
 
 pub loop-before-init : goal.loop-before-init
@@ -22,7 +22,7 @@ write_matched-next-requires-clause-room c =
     let a = c.args in
     let turn = c.loop-before in
     let inside : turn.before < a.self.now.instances = omega (arith, ap (λ e. e.instances) c.self.view_is) in
-    omega (arith, match_part a.self.now a.latency turn.before inside)
+    omega (arith, count_match a.self.now a.latency turn.before inside)
 
 pub loop-before-preserved : goal.loop-before-preserved
 loop-before-preserved c =
@@ -30,8 +30,8 @@ loop-before-preserved c =
     let turn = c.loop-before in
     let inside : turn.before < a.self.now.instances = omega (arith, ap (λ e. e.instances) c.self.view_is) in
     let wrote = c.write_matched-next in
-    let part = match_part a.self.now a.latency turn.before inside in (
+    let part = count_match a.self.now a.latency turn.before inside in (
       wrote.auto.out ∙ turn.invariant.0,
-      count_match a.self.now a.latency turn.before turn.next inside wrote.ensures.value turn.invariant.1,
+      omega (arith, wrote.ensures.value),
       links_more a.self.now a.latency turn.before turn.out turn.next wrote.result inside (omega arith) wrote.ensures.out_after wrote.ensures.value turn.invariant.2,
     )
