@@ -1,7 +1,7 @@
 -- The cycle as the code finds it: there is none over 48,000, and the search for it stops there.
 -- A cycle only grows, so that once it has passed 48,000 the whole cycle has.
 use Prim.Native.Nat.{ℕ, ◌+◌, ◌/◌, ◌%◌, ◌<◌, ◌≤◌, ◌∣◌}
-use native.Mathlib.Nat.{div-le_self, dvd_of_mod-eq-zero, mod-eq-zero_of_dvd}
+use native.Mathlib.Nat.{div-le_self, dvd_refl, dvd-add, dvd_of_mod-eq-zero, mod-eq-zero_of_dvd}
 use native.Mathlib.Omega.{arith}
 use mathlib.Core.Path.{◌≡◌, refl, ap, ◌∙◌}
 use mathlib.Core.Bool.{Bool, true, false, cond}
@@ -10,12 +10,13 @@ use lib.Dec.{ltb}
 use lib.ListN.{get_or}
 use borrow.Author.Tests.{lt-ltb, le-ltb, ltb-true, ltb-false}
 use Rattle.std.specs.Prelude.{Option, None, Some}
+use Rattle.std.proofs.lemmas.Bool.Decides.{nat_tests}
 use Rattle.laws.proofs.Members.{every_member, flat_member, only_member, count_member}
 use Rattle.passes.specs.declared.Passes.{Passes}
 use Rattle.passes.specs.Expand.{lcm, cycle_from, within_limit, job_count, instances}
 use Rattle.passes.specs.Timely.{pass_in, passes_at, in_order, Timely, AllTimely}
-use Rattle.passes.proofs.Multiples.{next_multiple, lcm_first, lcm_second, lcm_least}
-use Rattle.passes.proofs.Numbers.{passes_from, from_more, from_end, cycle_append}
+use Rattle.passes.proofs.Multiples.{next_multiple, lcm_from, lcm_first, lcm_second, lcm_least}
+use Rattle.passes.proofs.Numbers.{passes_from, from_none, from_more, from_end, cycle_append, cycle_from_lem}
 
 module _ (n : ℕ) where
   -- a number of ticks within the limit is kept, and one over it is not
@@ -107,3 +108,15 @@ module _ (passes : Passes) (n : ℕ) where
     pub cycle_end : 24 ≤ n → cycle_from c (passes_from passes n) ≡ c
     unfolding cycle_from
     cycle_end h = ap (cycle_from c) (from_end passes n h)
+
+-- what the search for a least common multiple rests on
+pub ruleset multiples_tried = (dvd_refl, dvd-add, lcm_from, multiple_found, multiple_more, nat_tests)
+
+-- what joining a pass to a cycle rests on
+pub ruleset pass_joined = (joined_absent, joined_present, period_above)
+
+-- what the cycle of all passes rests on
+pub ruleset all_joined = (from_none, cycle_from_lem, cycle_more, cycle_end, nat_tests)
+
+-- what counting a pass's instances rests on
+pub ruleset instances_counted = (instances_absent, instances_present, instances_small, period_above)

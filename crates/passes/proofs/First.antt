@@ -12,7 +12,7 @@ use Rattle.records.specs.declared.Pass.{Pass}
 use Rattle.passes.specs.declared.Passes.{Passes}
 use Rattle.passes.specs.Expand.{job_count, first_job}
 use Rattle.passes.specs.Timely.{pass_in, passes_at, in_order}
-use Rattle.passes.proofs.Numbers.{passes_from, from_more, first_job_append, job_count_append}
+use Rattle.passes.proofs.Numbers.{passes_from, from_none, from_more, first_job_append, job_count_append}
 
 module _ (passes : Passes) (cycle : ℕ) where
   -- a pass of lower number counts with its instances
@@ -83,3 +83,6 @@ module _ (passes : Passes) (cycle : ℕ) where
   -- so a pass's jobs and those before it are among all jobs
   pub first_within : (n : ℕ) → n < 24 → first_job cycle (in_order passes) n + job_count cycle (passes_at passes n) ≤ job_count cycle (in_order passes)
   first_within n h = omega (arith, first_order n 24 h h, first_all)
+
+-- what counting the jobs before a pass's rests on
+pub ruleset jobs_before = (from_none, first_more, first_end)

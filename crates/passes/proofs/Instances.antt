@@ -18,28 +18,16 @@ use Rattle.records.proofs.Writing.{written, written_none, written_one, written_m
 use Rattle.passes.specs.declared.Passes.{Passes}
 use Rattle.passes.specs.Expand.{instances, instance_of, jobs_from, job_count}
 use Rattle.passes.specs.Timely.{pass_in, passes_at}
-use Rattle.passes.proofs.Ceiling.{at_absent, at_present}
+use Rattle.passes.proofs.Ceiling.{at_absent, at_present, timely, instances_absent}
 use Rattle.passes.proofs.Numbers.{passes_from, from_more, from_end, jobs_append, count_next, count_none}
 
 -- what k periods take is what those before it take and one more
 pub periods : (k t : ℕ) → 1 ≤ k → k * t ≡ (k - 1) * t + t
 periods k t h = ap (λ n. n * t) (omega arith) ∙ suc-mul (k - 1) t
 
--- and so what one more takes
-pub next_period : (before t : ℕ) → (before + 1) * t ≡ before * t + t
-next_period before t = ap (λ n. n * t) (omega arith) ∙ suc-mul before t
-
 -- the records of the instances after `before` of `times`
 abbrev pub instances_from : Pass → ℕ → ℕ → ℕ → List JobRecord
 instances_from pass first before times = map J (map (instance_of pass first) (count (before + 1) (times - before)))
-
--- the loop's begin: all are left
-pub instances_start : (pass : Pass) (first times : ℕ) (out : List ℕ)
-    → written job_bytes out (first + 0) (instances_from pass first 0 times) ≡ written job_bytes out first (map J (map (instance_of pass first) (count 1 times)))
-instances_start pass first times out =
-    let here : first + 0 ≡ first = omega arith in
-    let all : times - 0 ≡ times = omega arith in
-    rw (here, all)
 
 module _ (pass : Pass) (first before times : ℕ) (out : List ℕ) {goal : List ℕ} (left : written job_bytes out (first + before) (instances_from pass first before times) ≡ goal) where
   -- a turn of the loop that writes them
@@ -78,6 +66,9 @@ module _ (passes : Passes) (n cycle first : ℕ) where
       where
         same : map J (map (instance_of (pass_in passes n) first) (count 1 times)) ≡ map J (jobs_from cycle first (passes_at passes n))
         same = rw (at_present passes n e, times_of, append-nil (map (instance_of (pass_in passes n) first) (count 1 (instances cycle (pass_in passes n)))))
+
+-- what writing a pass's jobs rests on
+pub ruleset pass_written = (instances_absent, no_jobs, times_span, pass_jobs, timely)
 
 -- as many jobs are written as the passes have
 pub length_jobs : (cycle first : ℕ) (ps : List Pass) → length (map J (jobs_from cycle first ps)) ≡ job_count cycle ps

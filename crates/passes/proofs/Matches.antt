@@ -1,6 +1,5 @@
 -- The links of a flow, found one after another: a turn of the loop takes an instance of the source, which has one link or none, and those of the instances after it are left.
 use Prim.Native.Nat.{ℕ, ◌+◌, ◌-◌, ◌*◌, ◌/◌, ◌<◌, ◌≤◌}
-use native.Mathlib.Nat.{mul-le-mul_right}
 use native.Mathlib.Omega.{arith}
 use mathlib.Core.Path.{◌≡◌, refl, sym, ap, ◌∙◌}
 use mathlib.Core.Bool.{Bool, true, false}
@@ -95,17 +94,12 @@ module _ (e : FlowEnds) (latency : ℕ) where
       pub links_end : {goal : List ℕ} → e.instances ≤ before → written job_bytes out place (map L (matched_from e latency before)) ≡ goal → out ≡ goal
       links_end h left = written_end jobs out place (map L (matched_from e latency before)) (ap (map L) (matched_end h)) left
 
-module _ (e : FlowEnds) (fit : EndsFit e) (before : ℕ) (h : before < e.instances) where
-  -- no instance is released past 48,000
-  pub released : before * e.source_period ≤ 48000
-  released =
-      let inside : before ≤ e.instances = omega arith in
-      let span = fit.span in
-      omega (arith, mul-le-mul_right e.source_period inside)
+-- what counting the links rests on
+pub ruleset links_counted = (matched_start, match_count, match_once, count_match, count_all)
 
-  -- nor is a job linked that is numbered 48 or above
-  pub linked : e.to + before * e.source_period / e.target_period < 48
-  linked = let here : before + 1 - 1 ≡ before = omega arith in rw here at (fit.to (before + 1) (omega arith) (omega arith))
+-- where the links fit, none names a job that is numbered 48 or above
+pub linked : (e : FlowEnds) → EndsFit e → (before : ℕ) → before < e.instances → e.to + before * e.source_period / e.target_period < 48
+linked e fit before h = let here : before + 1 - 1 ≡ before = omega arith in rw here at (fit.to (before + 1) (omega arith) (omega arith))
 
 module _ (passes : Passes) (cycle : ℕ) where
   -- what a flow's record says of its ends

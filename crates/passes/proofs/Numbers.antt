@@ -60,11 +60,6 @@ job_count_append cycle (p ∷ ps) qs = omega (arith, job_count_append cycle ps q
 pub job_count_more : (passes : Passes) (cycle n : ℕ) → n < 24 → job_count cycle (passes_from passes n) ≡ job_count cycle (passes_at passes n) + job_count cycle (passes_from passes (n + 1))
 job_count_more passes cycle n h = ap (job_count cycle) (from_more passes n h) ∙ job_count_append cycle (passes_at passes n) (passes_from passes (n + 1))
 
--- from 24 on there are none
-pub job_count_end : (passes : Passes) (cycle n : ℕ) → 24 ≤ n → job_count cycle (passes_from passes n) ≡ 0
-unfolding job_count
-job_count_end passes cycle n h = ap (job_count cycle) (from_end passes n h)
-
 -- so with the jobs of the passes of lower number
 pub first_job_append : (cycle : ℕ) (ps qs : List Pass) (n : ℕ) → first_job cycle (ps ++ qs) n ≡ first_job cycle ps n + first_job cycle qs n
 unfolding first_job

@@ -59,7 +59,7 @@ fn write_instances(out: &mut [u8], first: usize, pass: Pass, times: usize)
 }
 
 // The jobs of the pass with a number, if there is one, from the number `first` on: the number of the next job.
-#[tactic(auto, using(crate::proofs::Ceiling::instances_absent, crate::proofs::Instances::no_jobs, crate::proofs::Instances::times_span, crate::proofs::Instances::pass_jobs, crate::proofs::Ceiling::timely))]
+#[tactic(auto, using(crate::proofs::Instances::pass_written))]
 fn write_pass(out: &mut [u8], first: usize, plan: &Plan, number: usize) -> usize
     requires known { number < 24 }
     requires room { let jobs = job_count plan.now.cycle (passes_at plan.now.passes number) in (first + jobs ≤ 48) × (12 * (first + jobs) ≤ length out.old) }
@@ -118,7 +118,7 @@ impl Ends {
     }
 
     // How many links the flow has.
-    #[tactic(auto, using(crate::proofs::Matches::matched_start, crate::proofs::Matches::match_count, crate::proofs::Matches::match_once, crate::proofs::Matches::count_match, crate::proofs::Matches::count_all))]
+    #[tactic(auto, using(crate::proofs::Matches::links_counted))]
     fn count(&self) -> usize
         ensures upper_bound { result ≤ 48 }
         ensures by_index { (latency : ℕ) → result ≡ length (matched_links self.now latency) }
