@@ -82,20 +82,24 @@ module _ (e : FlowEnds) (latency : ℕ) where
           → (place + 1 ≡ place + length (matched e latency (before + 1))) × (after ≡ written job_bytes out place (map L (matched e latency (before + 1))))
       write_one t wrote = rw (one_match t) (refl, wrote ∙ written_one jobs out place (L (link (e.from + before) (e.to + before * e.source_period / e.target_period) latency)))
 
-      -- a turn of the loop that writes them
-      pub links_more : {after goal : List ℕ} (next : ℕ) → before < e.instances → 12 * (place + length (matched e latency (before + 1))) ≤ length out → after ≡ written job_bytes out place (map L (matched e latency (before + 1)))
-          → next ≡ place + length (matched e latency (before + 1)) → written job_bytes out place (map L (matched_from e latency before)) ≡ goal → written job_bytes after next (map L (matched_from e latency (before + 1))) ≡ goal
-      links_more next h room wrote on left =
+      -- the links of the instances after some are written by writing the next one's, and behind them those after it
+      pub links_more : before < e.instances → 12 * (place + length (matched e latency (before + 1))) ≤ length out
+          → written job_bytes out place (map L (matched_from e latency before))
+          ≡ written job_bytes (written job_bytes out place (map L (matched e latency (before + 1)))) (place + length (matched e latency (before + 1))) (map L (matched_from e latency (before + 1)))
+      links_more h room =
           let many : length (map L (matched e latency (before + 1))) ≡ length (matched e latency (before + 1)) = length-map (matched e latency (before + 1)) L in
-          written_more jobs out place next (map L (matched_from e latency before)) (map L (matched e latency (before + 1))) (map L (matched_from e latency (before + 1)))
-          (ap (map L) (matched_more h) ∙ map-append L (matched e latency (before + 1)) (matched_from e latency (before + 1))) (omega arith) wrote (omega arith) left
+          sym (written_more jobs out place (place + length (matched e latency (before + 1))) (map L (matched_from e latency before)) (map L (matched e latency (before + 1))) (map L (matched_from e latency (before + 1)))
+          (ap (map L) (matched_more h) ∙ map-append L (matched e latency (before + 1)) (matched_from e latency (before + 1))) (omega arith) refl (omega arith) refl)
 
-      -- its end
-      pub links_end : {goal : List ℕ} → e.instances ≤ before → written job_bytes out place (map L (matched_from e latency before)) ≡ goal → out ≡ goal
-      links_end h left = written_end jobs out place (map L (matched_from e latency before)) (ap (map L) (matched_end h)) left
+      -- after all of them nothing is written
+      pub links_end : e.instances ≤ before → written job_bytes out place (map L (matched_from e latency before)) ≡ out
+      links_end h = sym (written_end jobs out place (map L (matched_from e latency before)) (ap (map L) (matched_end h)) refl)
 
 -- what counting the links rests on
 pub ruleset links_counted = (matched_start, match_count, match_once, count_match, count_all)
+
+-- what writing the links rests on
+pub ruleset links_written = (matched_start, count_match, count_all, links_more, links_end)
 
 -- where the links fit, none names a job that is numbered 48 or above
 pub linked : (e : FlowEnds) → EndsFit e → (before : ℕ) → before < e.instances → e.to + before * e.source_period / e.target_period < 48

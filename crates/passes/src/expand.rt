@@ -49,6 +49,7 @@ fn instance_of(pass: Pass, first: usize, before: usize) -> Job
 }
 
 // The jobs of the first `times` instances of a pass, each at the place of its number.
+#[tactic(auto, using(crate::proofs::Instances::instances_written))]
 fn write_instances(out: &mut [u8], first: usize, pass: Pass, times: usize)
     requires { (12 * (first + times) ≤ length out.old) × (first + times ≤ 48) × (times * pass.period ≤ 48000) × (pass.phase + pass.within ≤ pass.period) }
     ensures { out.new ≡ written_at out.old first (map J (map (instance_of pass first) (count 1 times))) }
@@ -75,6 +76,7 @@ fn write_pass(out: &mut [u8], first: usize, plan: &Plan, number: usize) -> usize
 }
 
 // The jobs of all passes.
+#[tactic(auto, using(crate::proofs::Instances::jobs_written))]
 pub fn write_jobs(out: &mut [u8], plan: &Plan)
     requires few { job_count plan.now.cycle (in_order plan.now.passes) ≤ 48 }
     requires room { 12 * job_count plan.now.cycle (in_order plan.now.passes) ≤ length out.old }
@@ -153,6 +155,7 @@ impl Ends {
     }
 
     // The links of the flow from a place on: the next place.
+    #[tactic(auto, using(crate::proofs::Matches::links_written))]
     fn write(&self, out: &mut [u8], place: usize, latency: u16) -> usize
         requires { 12 * (place + length (matched_links self.now latency)) ≤ length out.old }
         ensures value { result ≡ place + length (matched_links self.now latency) }
