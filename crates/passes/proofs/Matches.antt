@@ -57,12 +57,18 @@ module _ (e : FlowEnds) (latency : ℕ) where
     no_match t = rw t
 
     -- so many links it has
+    pub one_long : matches e (before + 1) ≡ true → length (matched e latency (before + 1)) ≡ 1
+    one_long t = ap length (one_match t)
+
+    pub none_long : matches e (before + 1) ≡ false → length (matched e latency (before + 1)) ≡ 0
+    none_long t = ap length (no_match t)
+
     pub match_count : {t : Bool} → t ≡ matches e (before + 1) → from_bool t ≡ length (matched e latency (before + 1))
     match_count {t} same = step t same
       where
         step : (t : Bool) → t ≡ matches e (before + 1) → from_bool t ≡ length (matched e latency (before + 1))
-        step true same = sym (ap length (one_match (sym same)))
-        step false same = sym (ap length (no_match (sym same)))
+        step true same = sym (one_long (sym same))
+        step false same = sym (none_long (sym same))
 
     -- the links of the instances after some are the next one's and those after it
     pub count_match : before < e.instances → length (matched_from e latency before) ≡ length (matched e latency (before + 1)) + length (matched_from e latency (before + 1))
@@ -74,13 +80,13 @@ module _ (e : FlowEnds) (latency : ℕ) where
 
     module _ (out : List ℕ) (place : ℕ) where
       -- where it does not match, nothing is written
-      pub write_none : matches e (before + 1) ≡ false → (place ≡ place + length (matched e latency (before + 1))) × (out ≡ written job_bytes out place (map L (matched e latency (before + 1))))
-      write_none t = rw (no_match t) (omega arith, written_none jobs out place)
+      pub write_none : matches e (before + 1) ≡ false → written job_bytes out place (map L (matched e latency (before + 1))) ≡ out
+      write_none t = rw (no_match t) (sym (written_none jobs out place))
 
       -- where it does, its link is
-      pub write_one : matches e (before + 1) ≡ true → {after : List ℕ} → after ≡ paste out (12 * place) (job_bytes (L (link (e.from + before) (e.to + before * e.source_period / e.target_period) latency))) 12
-          → (place + 1 ≡ place + length (matched e latency (before + 1))) × (after ≡ written job_bytes out place (map L (matched e latency (before + 1))))
-      write_one t wrote = rw (one_match t) (refl, wrote ∙ written_one jobs out place (L (link (e.from + before) (e.to + before * e.source_period / e.target_period) latency)))
+      pub write_one : matches e (before + 1) ≡ true
+          → written job_bytes out place (map L (matched e latency (before + 1))) ≡ paste out (12 * place) (job_bytes (L (link (e.from + before) (e.to + before * e.source_period / e.target_period) latency))) 12
+      write_one t = rw (one_match t) (sym (written_one jobs out place (L (link (e.from + before) (e.to + before * e.source_period / e.target_period) latency))))
 
       -- the links of the instances after some are written by writing the next one's, and behind them those after it
       pub links_more : before < e.instances → 12 * (place + length (matched e latency (before + 1))) ≤ length out
@@ -104,6 +110,9 @@ pub ruleset links_written = (matched_start, count_match, count_all, links_more, 
 -- where the links fit, none names a job that is numbered 48 or above
 pub linked : (e : FlowEnds) → EndsFit e → (before : ℕ) → before < e.instances → e.to + before * e.source_period / e.target_period < 48
 linked e fit before h = let here : before + 1 - 1 ≡ before = omega arith in rw here at (fit.to (before + 1) (omega arith) (omega arith))
+
+-- what writing an instance's link rests on
+pub ruleset match_written = (one_long, none_long, write_none, write_one)
 
 module _ (passes : Passes) (cycle : ℕ) where
   -- what a flow's record says of its ends

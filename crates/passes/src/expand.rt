@@ -133,6 +133,7 @@ impl Ends {
     }
 
     // The link of that instance at a place, if it has one: the next place.
+    #[tactic(auto, using(crate::proofs::Matches::match_written))]
     fn write_matched(&self, out: &mut [u8], place: usize, latency: u16, before: usize) -> usize
         requires inside { before < self.now.instances }
         requires room { 12 * (place + length (matched self.now latency (before + 1))) ≤ length out.old }
