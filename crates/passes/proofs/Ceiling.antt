@@ -8,7 +8,7 @@ use mathlib.Core.Bool.{Bool, true, false, cond}
 use mathlib.Core.List.{[], ◌∷◌}
 use lib.Dec.{ltb}
 use lib.ListN.{get_or}
-use borrow.Author.Tests.{lt-ltb, le-ltb, ltb-true, ltb-false}
+use borrow.Author.Tests.{le-ltb, ltb-true, ltb-false}
 use Rattle.std.specs.Prelude.{Option, None, Some}
 use Rattle.std.proofs.lemmas.Bool.Decides.{nat_tests}
 use Rattle.laws.proofs.Members.{every_member, flat_member, only_member, count_member}
@@ -19,12 +19,9 @@ use Rattle.passes.proofs.Multiples.{next_multiple, lcm_from, lcm_first, lcm_seco
 use Rattle.passes.proofs.Numbers.{passes_from, from_none, from_more, from_end, cycle_append, cycle_from_lem}
 
 module _ (n : ℕ) where
-  -- a number of ticks within the limit is kept, and one over it is not
+  -- a number of ticks within the limit is kept
   pub limit_kept : n ≤ 48000 → Some n ≡ within_limit n
   limit_kept h = rw (le-ltb 48000 n h)
-
-  pub limit_passed : 48000 < n → None ≡ within_limit n
-  limit_passed h = rw (lt-ltb 48000 n h)
 
   -- what is kept is the number, which is within the limit
   pub kept_within : {m : ℕ} → Some m ≡ within_limit n → (m ≡ n) × (n ≤ 48000)
