@@ -1,29 +1,27 @@
 -- The cycle as the code finds it: there is none over 48,000, and the search for it stops there.
 -- A cycle only grows, so that once it has passed 48,000 the whole cycle has.
 use Prim.Native.Nat.{ℕ, ◌+◌, ◌/◌, ◌%◌, ◌<◌, ◌≤◌, ◌∣◌}
-use native.Mathlib.Nat.{div-le_self, dvd_of_mod-eq-zero, mod-eq-zero_of_dvd}
+use native.Mathlib.Nat.{div-le_self, dvd_refl, dvd-add, dvd_of_mod-eq-zero, mod-eq-zero_of_dvd}
 use native.Mathlib.Omega.{arith}
 use mathlib.Core.Path.{◌≡◌, refl, ap, ◌∙◌}
 use mathlib.Core.Bool.{Bool, true, false, cond}
 use mathlib.Core.List.{[], ◌∷◌}
 use lib.Dec.{ltb}
 use lib.ListN.{get_or}
-use borrow.Author.Tests.{lt-ltb, le-ltb, ltb-true, ltb-false}
+use borrow.Author.Tests.{le-ltb, ltb-true, ltb-false}
 use Rattle.std.specs.Prelude.{Option, None, Some}
+use Rattle.std.proofs.lemmas.Bool.Decides.{nat_tests}
 use Rattle.laws.proofs.Members.{every_member, flat_member, only_member, count_member}
 use Rattle.passes.specs.declared.Passes.{Passes}
 use Rattle.passes.specs.Expand.{lcm, cycle_from, within_limit, job_count, instances}
 use Rattle.passes.specs.Timely.{pass_in, passes_at, in_order, Timely, AllTimely}
-use Rattle.passes.proofs.Multiples.{next_multiple, lcm_first, lcm_second, lcm_least}
-use Rattle.passes.proofs.Numbers.{passes_from, from_more, from_end, cycle_append, cycle_from_lem}
+use Rattle.passes.proofs.Multiples.{next_multiple, lcm_from, lcm_first, lcm_second, lcm_least}
+use Rattle.passes.proofs.Numbers.{passes_from, from_none, from_more, from_end, cycle_append, cycle_from_lem}
 
 module _ (n : ℕ) where
-  -- a number of ticks within the limit is kept, and one over it is not
+  -- a number of ticks within the limit is kept
   pub limit_kept : n ≤ 48000 → Some n ≡ within_limit n
   limit_kept h = rw (le-ltb 48000 n h)
-
-  pub limit_passed : 48000 < n → None ≡ within_limit n
-  limit_passed h = rw (lt-ltb 48000 n h)
 
   -- what is kept is the number, which is within the limit
   pub kept_within : {m : ℕ} → Some m ≡ within_limit n → (m ≡ n) × (n ≤ 48000)
@@ -99,25 +97,23 @@ module _ (passes : Passes) (n : ℕ) where
     unfolding job_count instances pass_in
     instances_present e = rw (at_present e) (omega arith)
 
-    module _ {w : ℕ} (h : n < 24) (whole : w ≡ cycle_from c (passes_from passes n)) where
-      -- the cycle from a number on is that from the next one on, from the cycle with the pass of this number
-      split : w ≡ cycle_from (cycle_from c (passes_at passes n)) (passes_from passes (n + 1))
-      split = whole ∙ ap (cycle_from c) (from_more passes n h) ∙ cycle_append c (passes_at passes n) (passes_from passes (n + 1))
-
-      -- where that is past the limit the whole cycle is past it
-      pub cycle_passed : None ≡ within_limit (cycle_from c (passes_at passes n)) → None ≡ within_limit w
-      cycle_passed none =
-          let over = none_over (cycle_from c (passes_at passes n)) none in
-          limit_passed w (omega (arith, split, cycle_from_lem (cycle_from c (passes_at passes n)) (passes_from passes (n + 1))))
-
-      -- below it the search goes on from there
-      pub cycle_more : {r : ℕ} → 0 < c → Some r ≡ within_limit (cycle_from c (passes_at passes n)) → (0 < r) × (r ≤ 48000) × (w ≡ cycle_from r (passes_from passes (n + 1)))
-      cycle_more {r} above some =
-          let kept = kept_within (cycle_from c (passes_at passes n)) some in
-          let grown = cycle_from_lem c (passes_at passes n) in
-          (omega arith, omega arith, rw kept.0 split)
+    -- the cycle from a number on is that from the next one on, from the cycle with the pass of this number
+    pub cycle_more : n < 24 → cycle_from c (passes_from passes n) ≡ cycle_from (cycle_from c (passes_at passes n)) (passes_from passes (n + 1))
+    cycle_more h = ap (cycle_from c) (from_more passes n h) ∙ cycle_append c (passes_at passes n) (passes_from passes (n + 1))
 
     -- where no number is left, the cycle is found
-    pub cycle_end : {w : ℕ} → 24 ≤ n → c ≤ 48000 → w ≡ cycle_from c (passes_from passes n) → Some c ≡ within_limit w
+    pub cycle_end : 24 ≤ n → cycle_from c (passes_from passes n) ≡ c
     unfolding cycle_from
-    cycle_end h small whole = let same = whole ∙ ap (cycle_from c) (from_end passes n h) in rw same (limit_kept c small)
+    cycle_end h = ap (cycle_from c) (from_end passes n h)
+
+-- what the search for a least common multiple rests on
+pub ruleset multiples_tried = (dvd_refl, dvd-add, lcm_from, multiple_found, multiple_more, nat_tests)
+
+-- what joining a pass to a cycle rests on
+pub ruleset pass_joined = (joined_absent, joined_present, period_above)
+
+-- what the cycle of all passes rests on
+pub ruleset all_joined = (from_none, cycle_from_lem, cycle_more, cycle_end, nat_tests)
+
+-- what counting a pass's instances rests on
+pub ruleset instances_counted = (instances_absent, instances_present, instances_small, period_above)

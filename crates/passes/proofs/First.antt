@@ -12,7 +12,7 @@ use Rattle.records.specs.declared.Pass.{Pass}
 use Rattle.passes.specs.declared.Passes.{Passes}
 use Rattle.passes.specs.Expand.{job_count, first_job}
 use Rattle.passes.specs.Timely.{pass_in, passes_at, in_order}
-use Rattle.passes.proofs.Numbers.{passes_from, from_more, first_job_append, job_count_append}
+use Rattle.passes.proofs.Numbers.{passes_from, from_none, from_more, first_job_append, job_count_append}
 
 module _ (passes : Passes) (cycle : ℕ) where
   -- a pass of lower number counts with its instances
@@ -33,10 +33,9 @@ module _ (passes : Passes) (cycle : ℕ) where
       go true = rw (le-ltb m n h)
       go false = refl
 
-  -- a turn of the loop that counts them
-  pub first_more : (m n first : ℕ) {r w : ℕ} → m < 24 → m < n → r ≡ job_count cycle (passes_at passes m) → w ≡ first + first_job cycle (passes_from passes m) n
-      → w ≡ first + r + first_job cycle (passes_from passes (m + 1)) n
-  first_more m n first low h here whole =
+  -- so those from a number below it on are its instances and those from the next number on
+  pub first_more : (m n : ℕ) → m < 24 → m < n → first_job cycle (passes_from passes m) n ≡ job_count cycle (passes_at passes m) + first_job cycle (passes_from passes (m + 1)) n
+  first_more m n low h =
       let split = ap (λ ps. first_job cycle ps n) (from_more passes m low) ∙ first_job_append cycle (passes_at passes m) (passes_from passes (m + 1)) n in
       omega (arith, lower_counts m n h)
 
@@ -46,9 +45,8 @@ module _ (passes : Passes) (cycle : ℕ) where
   none_counts m zero n h = refl
   none_counts m (suc k) n h = omega (arith, first_job_append cycle (passes_at passes m) (flat (passes_at passes) (count (m + 1) k)) n, higher_not m n h, none_counts (m + 1) k n (omega arith))
 
-  -- the loop's end
-  pub first_end : (m n first : ℕ) {w : ℕ} → n ≤ m → w ≡ first + first_job cycle (passes_from passes m) n → first ≡ w
-  first_end m n first h whole = omega (arith, none_counts m (24 - m) n h)
+  pub first_end : (m n : ℕ) → n ≤ m → first_job cycle (passes_from passes m) n ≡ 0
+  first_end m n h = none_counts m (24 - m) n h
 
   -- a pass's jobs stand before those of a higher number
   pub first_order : (n m : ℕ) → n < 24 → n < m → first_job cycle (in_order passes) n + job_count cycle (passes_at passes n) ≤ first_job cycle (in_order passes) m
@@ -85,3 +83,6 @@ module _ (passes : Passes) (cycle : ℕ) where
   -- so a pass's jobs and those before it are among all jobs
   pub first_within : (n : ℕ) → n < 24 → first_job cycle (in_order passes) n + job_count cycle (passes_at passes n) ≤ job_count cycle (in_order passes)
   first_within n h = omega (arith, first_order n 24 h h, first_all)
+
+-- what counting the jobs before a pass's rests on
+pub ruleset jobs_before = (from_none, first_more, first_end)

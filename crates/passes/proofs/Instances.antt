@@ -2,7 +2,7 @@
 use Prim.Native.Nat.{ℕ, ◌+◌, ◌-◌, ◌*◌, ◌<◌, ◌≤◌}
 use native.Mathlib.Nat.{suc-mul, div-mul-le_self}
 use native.Mathlib.Omega.{arith}
-use mathlib.Core.Path.{◌≡◌, refl, ap, ◌∙◌}
+use mathlib.Core.Path.{◌≡◌, refl, sym, ap, ◌∙◌}
 use mathlib.Core.Bool.{true, false}
 use mathlib.Core.List.{List, [], ◌∷◌, ◌++◌, map, append-nil, map-append}
 use lib.ListN.{length, get_or, length-map, length-append}
@@ -10,55 +10,48 @@ use lib.Seq.{paste}
 use Rattle.laws.specs.Lists.{count}
 use Rattle.laws.proofs.Rows.{length_row}
 use Rattle.records.specs.Record.{job_bytes}
+use Rattle.records.specs.Table.{encode}
+use Rattle.records.specs.Outcome.{overwrite}
 use Rattle.records.specs.declared.Pass.{Pass}
 use Rattle.records.specs.declared.JobRecord.{JobRecord}
 use Rattle.records.specs.declared.JobRecord.TheVariants.{J}
 use Rattle.records.proofs.Codec.{jobs}
-use Rattle.records.proofs.Writing.{written, written_none, written_one, written_more, written_end}
+use Rattle.records.proofs.Writing.{written, written_none, written_one, written_append, written_first, written_more, written_end}
 use Rattle.passes.specs.declared.Passes.{Passes}
 use Rattle.passes.specs.Expand.{instances, instance_of, jobs_from, job_count}
-use Rattle.passes.specs.Timely.{pass_in, passes_at}
-use Rattle.passes.proofs.Ceiling.{at_absent, at_present}
-use Rattle.passes.proofs.Numbers.{passes_from, from_more, from_end, jobs_append, count_next, count_none}
+use Rattle.passes.specs.Timely.{pass_in, passes_at, in_order}
+use Rattle.passes.proofs.Ceiling.{at_absent, at_present, timely, instances_absent}
+use Rattle.passes.proofs.Numbers.{passes_from, from_none, from_more, from_end, job_count_more, jobs_append, count_next, count_none}
 
 -- what k periods take is what those before it take and one more
 pub periods : (k t : ℕ) → 1 ≤ k → k * t ≡ (k - 1) * t + t
 periods k t h = ap (λ n. n * t) (omega arith) ∙ suc-mul (k - 1) t
 
--- and so what one more takes
-pub next_period : (before t : ℕ) → (before + 1) * t ≡ before * t + t
-next_period before t = ap (λ n. n * t) (omega arith) ∙ suc-mul before t
-
 -- the records of the instances after `before` of `times`
 abbrev pub instances_from : Pass → ℕ → ℕ → ℕ → List JobRecord
 instances_from pass first before times = map J (map (instance_of pass first) (count (before + 1) (times - before)))
 
--- the loop's begin: all are left
-pub instances_start : (pass : Pass) (first times : ℕ) (out : List ℕ)
-    → written job_bytes out (first + 0) (instances_from pass first 0 times) ≡ written job_bytes out first (map J (map (instance_of pass first) (count 1 times)))
-instances_start pass first times out =
-    let here : first + 0 ≡ first = omega arith in
-    let all : times - 0 ≡ times = omega arith in
-    rw (here, all)
+module _ (pass : Pass) (first before times : ℕ) (out : List ℕ) where
+  -- the jobs of the instances after some are written by writing the next one's, and behind it those after it
+  pub instances_more : before < times → 12 * (first + times) ≤ length out
+      → written job_bytes out (first + before) (instances_from pass first before times)
+      ≡ written job_bytes (paste out (12 * (first + before)) (job_bytes (J (instance_of pass first (before + 1)))) 12) (first + (before + 1)) (instances_from pass first (before + 1) times)
+  instances_more h room =
+      sym (written_more jobs out (first + before) (first + (before + 1)) (instances_from pass first before times) (J (instance_of pass first (before + 1)) ∷ []) (instances_from pass first (before + 1) times)
+      (ap (λ ks. map J (map (instance_of pass first) ks)) (count_next before times h)) (omega arith) (written_one jobs out (first + before) (J (instance_of pass first (before + 1)))) (omega arith) refl)
 
-module _ (pass : Pass) (first before times : ℕ) (out : List ℕ) {goal : List ℕ} (left : written job_bytes out (first + before) (instances_from pass first before times) ≡ goal) where
-  -- a turn of the loop that writes them
-  pub instances_more : {after : List ℕ} → before < times → 12 * (first + times) ≤ length out → after ≡ paste out (12 * (first + before)) (job_bytes (J (instance_of pass first (before + 1)))) 12
-      → written job_bytes after (first + (before + 1)) (instances_from pass first (before + 1) times) ≡ goal
-  instances_more h room wrote =
-      written_more jobs out (first + before) (first + (before + 1)) (instances_from pass first before times) (J (instance_of pass first (before + 1)) ∷ []) (instances_from pass first (before + 1) times)
-      (ap (λ ks. map J (map (instance_of pass first) ks)) (count_next before times h)) (omega arith) (wrote ∙ written_one jobs out (first + before) (J (instance_of pass first (before + 1)))) (omega arith) left
+  -- after all of them nothing is written
+  pub instances_end : times ≤ before → written job_bytes out (first + before) (instances_from pass first before times) ≡ out
+  instances_end h = sym (written_end jobs out (first + before) (instances_from pass first before times) (ap (λ ks. map J (map (instance_of pass first) ks)) (count_none before times h)) refl)
 
-  -- its end: all are written
-  pub instances_end : times ≤ before → out ≡ goal
-  instances_end h = written_end jobs out (first + before) (instances_from pass first before times) (ap (λ ks. map J (map (instance_of pass first) ks)) (count_none before times h)) left
+-- what writing the jobs of a pass's instances rests on
+pub ruleset instances_written = (instances_more, instances_end)
 
 module _ (passes : Passes) (n cycle first : ℕ) where
   -- where there is no pass, no job is written
-  pub no_jobs : get_or passes.present n false ≡ false → (out : List ℕ)
-      → (first ≡ first + job_count cycle (passes_at passes n)) × (out ≡ written job_bytes out first (map J (jobs_from cycle first (passes_at passes n))))
-  unfolding job_count jobs_from
-  no_jobs e out = rw (at_absent passes n e) (omega arith, written_none jobs out first)
+  pub no_jobs : get_or passes.present n false ≡ false → (out : List ℕ) → out ≡ written job_bytes out first (map J (jobs_from cycle first (passes_at passes n)))
+  unfolding jobs_from
+  no_jobs e out = rw (at_absent passes n e) (written_none jobs out first)
 
   module _ (e : get_or passes.present n false ≡ true) {times : ℕ} (here : times ≡ job_count cycle (passes_at passes n)) where
     -- where there is one, its instances are as many as its period goes into the cycle
@@ -80,6 +73,9 @@ module _ (passes : Passes) (n cycle first : ℕ) where
         same : map J (map (instance_of (pass_in passes n) first) (count 1 times)) ≡ map J (jobs_from cycle first (passes_at passes n))
         same = rw (at_present passes n e, times_of, append-nil (map (instance_of (pass_in passes n) first) (count 1 (instances cycle (pass_in passes n)))))
 
+-- what writing a pass's jobs rests on
+pub ruleset pass_written = (instances_absent, no_jobs, times_span, pass_jobs, timely)
+
 -- as many jobs are written as the passes have
 pub length_jobs : (cycle first : ℕ) (ps : List Pass) → length (map J (jobs_from cycle first ps)) ≡ job_count cycle ps
 unfolding jobs_from job_count
@@ -90,22 +86,35 @@ length_jobs cycle first ps = length-map (jobs_from cycle first ps) J ∙ go firs
     go first (p ∷ ps) =
         omega (arith, length-append (map (instance_of p first) (count 1 (instances cycle p))) (jobs_from cycle (first + instances cycle p) ps), length_row (instance_of p first) 1 (instances cycle p), go (first + instances cycle p) ps)
 
-module _ (passes : Passes) (n cycle first : ℕ) (out : List ℕ) {goal : List ℕ} (left : written job_bytes out first (map J (jobs_from cycle first (passes_from passes n))) ≡ goal) where
-  -- a turn of the loop that writes the jobs of all passes: those of the pass with this number are written, and those from the next number on are left
-  pub jobs_more : {after : List ℕ} (next : ℕ) → n < 24 → 12 * (first + job_count cycle (passes_at passes n)) ≤ length out
-      → after ≡ written job_bytes out first (map J (jobs_from cycle first (passes_at passes n))) → next ≡ first + job_count cycle (passes_at passes n)
-      → written job_bytes after next (map J (jobs_from cycle next (passes_from passes (n + 1)))) ≡ goal
-  jobs_more next h room wrote on =
-      written_more jobs out first next (map J (jobs_from cycle first (passes_from passes n))) (map J (jobs_from cycle first (passes_at passes n))) (map J (jobs_from cycle next (passes_from passes (n + 1))))
-      (rw on parts) (omega (arith, many)) wrote (omega (arith, many)) left
+module _ (passes : Passes) (n cycle first : ℕ) (out : List ℕ) where
+  -- the jobs of the passes from a number on are written by writing those of the pass with it, and behind them those of the passes from the next number on
+  pub jobs_more : n < 24 → 12 * (first + job_count cycle (passes_at passes n)) ≤ length out
+      → written job_bytes out first (map J (jobs_from cycle first (passes_from passes n)))
+      ≡ written job_bytes (written job_bytes out first (map J (jobs_from cycle first (passes_at passes n)))) (first + job_count cycle (passes_at passes n))
+      (map J (jobs_from cycle (first + job_count cycle (passes_at passes n)) (passes_from passes (n + 1))))
+  jobs_more h room = ap (written job_bytes out first) parts ∙ sym (ap (λ k. written job_bytes (written job_bytes out first own) (first + k) later) (sym many) ∙ written_append jobs out first own later (omega (arith, many)))
     where
-      many : length (map J (jobs_from cycle first (passes_at passes n))) ≡ job_count cycle (passes_at passes n)
+      own : List JobRecord
+      own = map J (jobs_from cycle first (passes_at passes n))
+
+      later : List JobRecord
+      later = map J (jobs_from cycle (first + job_count cycle (passes_at passes n)) (passes_from passes (n + 1)))
+
+      many : length own ≡ job_count cycle (passes_at passes n)
       many = length_jobs cycle first (passes_at passes n)
 
-      parts : map J (jobs_from cycle first (passes_from passes n)) ≡ map J (jobs_from cycle first (passes_at passes n)) ++ map J (jobs_from cycle (first + job_count cycle (passes_at passes n)) (passes_from passes (n + 1)))
+      parts : map J (jobs_from cycle first (passes_from passes n)) ≡ own ++ later
       parts = ap (λ ps. map J (jobs_from cycle first ps)) (from_more passes n h) ∙ ap (map J) (jobs_append cycle first (passes_at passes n) (passes_from passes (n + 1))) ∙ map-append J (jobs_from cycle first (passes_at passes n)) (jobs_from cycle (first + job_count cycle (passes_at passes n)) (passes_from passes (n + 1)))
 
-  -- its end: all are written
-  pub jobs_end : 24 ≤ n → out ≡ goal
+  -- from 24 on nothing is written
+  pub jobs_end : 24 ≤ n → written job_bytes out first (map J (jobs_from cycle first (passes_from passes n))) ≡ out
   unfolding jobs_from
-  jobs_end h = written_end jobs out first (map J (jobs_from cycle first (passes_from passes n))) (ap (λ ps. map J (jobs_from cycle first ps)) (from_end passes n h)) left
+  jobs_end h = ap (λ ps. written job_bytes out first (map J (jobs_from cycle first ps))) (from_end passes n h) ∙ sym (written_none jobs out first)
+
+-- the jobs of all passes are written from the first place on
+pub jobs_start : (passes : Passes) (cycle : ℕ) (out : List ℕ) → written job_bytes out 0 (map J (jobs_from cycle 0 (passes_from passes 0))) ≡ overwrite (encode job_bytes (map J (jobs_from cycle 0 (in_order passes)))) out
+jobs_start passes cycle out =
+    ap (λ ps. written job_bytes out 0 (map J (jobs_from cycle 0 ps))) (sym (from_none passes)) ∙ written_first jobs out (map J (jobs_from cycle 0 (in_order passes)))
+
+-- what writing the jobs of all passes rests on
+pub ruleset jobs_written = (from_none, job_count_more, jobs_start, jobs_more, jobs_end)

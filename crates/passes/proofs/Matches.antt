@@ -1,6 +1,5 @@
 -- The links of a flow, found one after another: a turn of the loop takes an instance of the source, which has one link or none, and those of the instances after it are left.
 use Prim.Native.Nat.{ℕ, ◌+◌, ◌-◌, ◌*◌, ◌/◌, ◌<◌, ◌≤◌}
-use native.Mathlib.Nat.{mul-le-mul_right}
 use native.Mathlib.Omega.{arith}
 use mathlib.Core.Path.{◌≡◌, refl, sym, ap, ◌∙◌}
 use mathlib.Core.Bool.{Bool, true, false}
@@ -58,61 +57,62 @@ module _ (e : FlowEnds) (latency : ℕ) where
     no_match t = rw t
 
     -- so many links it has
+    pub one_long : matches e (before + 1) ≡ true → length (matched e latency (before + 1)) ≡ 1
+    one_long t = ap length (one_match t)
+
+    pub none_long : matches e (before + 1) ≡ false → length (matched e latency (before + 1)) ≡ 0
+    none_long t = ap length (no_match t)
+
     pub match_count : {t : Bool} → t ≡ matches e (before + 1) → from_bool t ≡ length (matched e latency (before + 1))
     match_count {t} same = step t same
       where
         step : (t : Bool) → t ≡ matches e (before + 1) → from_bool t ≡ length (matched e latency (before + 1))
-        step true same = sym (ap length (one_match (sym same)))
-        step false same = sym (ap length (no_match (sym same)))
+        step true same = sym (one_long (sym same))
+        step false same = sym (none_long (sym same))
 
-    -- a turn of the loop that counts them
-    pub count_match : (links : ℕ) {next w : ℕ} → before < e.instances → next ≡ links + length (matched e latency (before + 1)) → w ≡ links + length (matched_from e latency before)
-        → w ≡ next + length (matched_from e latency (before + 1))
-    count_match links h on whole =
-        let split = ap length (matched_more h) ∙ length-append (matched e latency (before + 1)) (matched_from e latency (before + 1)) in
-        omega arith
+    -- the links of the instances after some are the next one's and those after it
+    pub count_match : before < e.instances → length (matched_from e latency before) ≡ length (matched e latency (before + 1)) + length (matched_from e latency (before + 1))
+    count_match h = ap length (matched_more h) ∙ length-append (matched e latency (before + 1)) (matched_from e latency (before + 1))
 
-    -- its end
-    pub count_all : (links : ℕ) {w : ℕ} → e.instances ≤ before → w ≡ links + length (matched_from e latency before) → links ≡ w
-    count_all links h whole = let none_left = ap length (matched_end h) in omega arith
-
-    -- an instance has no more links than are left
-    pub match_part : before < e.instances → length (matched e latency (before + 1)) ≤ length (matched_from e latency before)
-    match_part h = omega (arith, ap length (matched_more h), length-append (matched e latency (before + 1)) (matched_from e latency (before + 1)))
+    -- past the last instance there are none
+    pub count_all : e.instances ≤ before → length (matched_from e latency before) ≡ 0
+    count_all h = ap length (matched_end h)
 
     module _ (out : List ℕ) (place : ℕ) where
       -- where it does not match, nothing is written
-      pub write_none : matches e (before + 1) ≡ false → (place ≡ place + length (matched e latency (before + 1))) × (out ≡ written job_bytes out place (map L (matched e latency (before + 1))))
-      write_none t = rw (no_match t) (omega arith, written_none jobs out place)
+      pub write_none : matches e (before + 1) ≡ false → written job_bytes out place (map L (matched e latency (before + 1))) ≡ out
+      write_none t = rw (no_match t) (sym (written_none jobs out place))
 
       -- where it does, its link is
-      pub write_one : matches e (before + 1) ≡ true → {after : List ℕ} → after ≡ paste out (12 * place) (job_bytes (L (link (e.from + before) (e.to + before * e.source_period / e.target_period) latency))) 12
-          → (place + 1 ≡ place + length (matched e latency (before + 1))) × (after ≡ written job_bytes out place (map L (matched e latency (before + 1))))
-      write_one t wrote = rw (one_match t) (refl, wrote ∙ written_one jobs out place (L (link (e.from + before) (e.to + before * e.source_period / e.target_period) latency)))
+      pub write_one : matches e (before + 1) ≡ true
+          → written job_bytes out place (map L (matched e latency (before + 1))) ≡ paste out (12 * place) (job_bytes (L (link (e.from + before) (e.to + before * e.source_period / e.target_period) latency))) 12
+      write_one t = rw (one_match t) (sym (written_one jobs out place (L (link (e.from + before) (e.to + before * e.source_period / e.target_period) latency))))
 
-      -- a turn of the loop that writes them
-      pub links_more : {after goal : List ℕ} (next : ℕ) → before < e.instances → 12 * (place + length (matched e latency (before + 1))) ≤ length out → after ≡ written job_bytes out place (map L (matched e latency (before + 1)))
-          → next ≡ place + length (matched e latency (before + 1)) → written job_bytes out place (map L (matched_from e latency before)) ≡ goal → written job_bytes after next (map L (matched_from e latency (before + 1))) ≡ goal
-      links_more next h room wrote on left =
+      -- the links of the instances after some are written by writing the next one's, and behind them those after it
+      pub links_more : before < e.instances → 12 * (place + length (matched e latency (before + 1))) ≤ length out
+          → written job_bytes out place (map L (matched_from e latency before))
+          ≡ written job_bytes (written job_bytes out place (map L (matched e latency (before + 1)))) (place + length (matched e latency (before + 1))) (map L (matched_from e latency (before + 1)))
+      links_more h room =
           let many : length (map L (matched e latency (before + 1))) ≡ length (matched e latency (before + 1)) = length-map (matched e latency (before + 1)) L in
-          written_more jobs out place next (map L (matched_from e latency before)) (map L (matched e latency (before + 1))) (map L (matched_from e latency (before + 1)))
-          (ap (map L) (matched_more h) ∙ map-append L (matched e latency (before + 1)) (matched_from e latency (before + 1))) (omega arith) wrote (omega arith) left
+          sym (written_more jobs out place (place + length (matched e latency (before + 1))) (map L (matched_from e latency before)) (map L (matched e latency (before + 1))) (map L (matched_from e latency (before + 1)))
+          (ap (map L) (matched_more h) ∙ map-append L (matched e latency (before + 1)) (matched_from e latency (before + 1))) (omega arith) refl (omega arith) refl)
 
-      -- its end
-      pub links_end : {goal : List ℕ} → e.instances ≤ before → written job_bytes out place (map L (matched_from e latency before)) ≡ goal → out ≡ goal
-      links_end h left = written_end jobs out place (map L (matched_from e latency before)) (ap (map L) (matched_end h)) left
+      -- after all of them nothing is written
+      pub links_end : e.instances ≤ before → written job_bytes out place (map L (matched_from e latency before)) ≡ out
+      links_end h = sym (written_end jobs out place (map L (matched_from e latency before)) (ap (map L) (matched_end h)) refl)
 
-module _ (e : FlowEnds) (fit : EndsFit e) (before : ℕ) (h : before < e.instances) where
-  -- no instance is released past 48,000
-  pub released : before * e.source_period ≤ 48000
-  released =
-      let inside : before ≤ e.instances = omega arith in
-      let span = fit.span in
-      omega (arith, mul-le-mul_right e.source_period inside)
+-- what counting the links rests on
+pub ruleset links_counted = (matched_start, match_count, match_once, count_match, count_all)
 
-  -- nor is a job linked that is numbered 48 or above
-  pub linked : e.to + before * e.source_period / e.target_period < 48
-  linked = let here : before + 1 - 1 ≡ before = omega arith in rw here at (fit.to (before + 1) (omega arith) (omega arith))
+-- what writing the links rests on
+pub ruleset links_written = (matched_start, count_match, count_all, links_more, links_end)
+
+-- where the links fit, none names a job that is numbered 48 or above
+pub linked : (e : FlowEnds) → EndsFit e → (before : ℕ) → before < e.instances → e.to + before * e.source_period / e.target_period < 48
+linked e fit before h = let here : before + 1 - 1 ≡ before = omega arith in rw here at (fit.to (before + 1) (omega arith) (omega arith))
+
+-- what writing an instance's link rests on
+pub ruleset match_written = (one_long, none_long, write_none, write_one)
 
 module _ (passes : Passes) (cycle : ℕ) where
   -- what a flow's record says of its ends

@@ -56,22 +56,9 @@ unfolding job_count
 job_count_append cycle [] qs = sym (zero-add _)
 job_count_append cycle (p ∷ ps) qs = omega (arith, job_count_append cycle ps qs)
 
--- the pass with a number has no more jobs than the passes from it on
-pub job_count_part : (passes : Passes) (cycle n : ℕ) → n < 24 → job_count cycle (passes_at passes n) ≤ job_count cycle (passes_from passes n)
-job_count_part passes cycle n h =
-    omega (arith, ap (job_count cycle) (from_more passes n h), job_count_append cycle (passes_at passes n) (passes_from passes (n + 1)))
-
--- a turn of a loop that counts jobs: those of the pass with this number are counted, and those from the next number on are left
-pub job_count_more : (passes : Passes) (cycle n jobs : ℕ) {r w : ℕ} → n < 24 → r ≡ job_count cycle (passes_at passes n) → w ≡ jobs + job_count cycle (passes_from passes n)
-    → w ≡ jobs + r + job_count cycle (passes_from passes (n + 1))
-job_count_more passes cycle n jobs h here whole =
-    let split = ap (job_count cycle) (from_more passes n h) ∙ job_count_append cycle (passes_at passes n) (passes_from passes (n + 1)) in
-    omega arith
-
--- and its end: all are counted
-pub job_count_end : (passes : Passes) (cycle n jobs : ℕ) {w : ℕ} → 24 ≤ n → w ≡ jobs + job_count cycle (passes_from passes n) → jobs ≡ w
-unfolding job_count
-job_count_end passes cycle n jobs h whole = let none_left = ap (job_count cycle) (from_end passes n h) in omega arith
+-- the jobs of the passes from a number on are those of the pass with it and those of the passes from the next number on
+pub job_count_more : (passes : Passes) (cycle n : ℕ) → n < 24 → job_count cycle (passes_from passes n) ≡ job_count cycle (passes_at passes n) + job_count cycle (passes_from passes (n + 1))
+job_count_more passes cycle n h = ap (job_count cycle) (from_more passes n h) ∙ job_count_append cycle (passes_at passes n) (passes_from passes (n + 1))
 
 -- so with the jobs of the passes of lower number
 pub first_job_append : (cycle : ℕ) (ps qs : List Pass) (n : ℕ) → first_job cycle (ps ++ qs) n ≡ first_job cycle ps n + first_job cycle qs n

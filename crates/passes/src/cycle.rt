@@ -6,6 +6,7 @@ ghost use Rattle.passes.specs.Timely.{passes_at, in_order, AllTimely, all_timely
 use crate::Passes;
 
 // The least common multiple of two numbers, the first of a, 2·a, .. that b divides, where it is at most 48,000.
+#[tactic(auto, using(crate::proofs::Ceiling::multiples_tried))]
 fn multiple(a: u32, b: u32) -> Option<u32>
     requires { (0 < a) × (a < 65536) × (0 < b) }
     ensures { result ≡ within_limit (lcm a b) }
@@ -19,6 +20,7 @@ fn multiple(a: u32, b: u32) -> Option<u32>
 }
 
 // The least common multiple of a cycle and a period, where it is at most 48,000: of the larger one the fewest multiples are tried.
+#[tactic(auto, using(crate::proofs::Multiples::lcm_comm))]
 fn common(cycle: u32, period: u16) -> Option<u32>
     requires { (0 < cycle) × (cycle ≤ 48000) × (0 < period) }
     ensures { result ≡ within_limit (lcm cycle period) }
@@ -31,6 +33,7 @@ fn common(cycle: u32, period: u16) -> Option<u32>
 }
 
 // A cycle with the period of the pass with a number, if there is one, where it is at most 48,000.
+#[tactic(auto, using(crate::proofs::Ceiling::pass_joined))]
 fn joined(cycle: u32, passes: &Passes, number: usize) -> Option<u32>
     requires { (0 < cycle) × (cycle ≤ 48000) × (number < 24) × AllTimely passes.now }
     ensures { result ≡ within_limit (cycle_from cycle (passes_at passes.now number)) }
@@ -42,6 +45,7 @@ fn joined(cycle: u32, passes: &Passes, number: usize) -> Option<u32>
 }
 
 // The cycle of the passes, where it is at most 48,000.
+#[tactic(auto, using(crate::proofs::Ceiling::all_joined))]
 pub(crate) fn cycle_of(passes: &Passes) -> Option<u32>
     requires { AllTimely passes.now }
     ensures { result ≡ within_limit (cycle_from 1 (in_order passes.now)) }
@@ -64,6 +68,7 @@ pub struct Plan {
 
 impl Plan {
     // How many instances the pass with a number has: none where there is no such pass.
+    #[tactic(auto, using(crate::proofs::Ceiling::instances_counted))]
     pub(crate) fn instances_of(&self, number: usize) -> usize
         requires { number < 24 }
         ensures { (result ≡ job_count self.now.cycle (passes_at self.now.passes number)) × (result ≤ 48000) }
@@ -74,18 +79,16 @@ impl Plan {
         (self.cycle / u32::from(self.passes.period[number])) as usize
     }
 
-    // How many jobs the passes have.
+    // How many jobs the passes have: as many as stand before the number 24.
+    #[tactic(auto, using(crate::proofs::First::first_all))]
     pub(crate) fn job_count(&self) -> usize
         ensures { result ≡ job_count self.now.cycle (in_order self.now.passes) }
     {
-        let mut jobs = 0;
-        for number in 0..24 {
-            jobs += self.instances_of(number);
-        }
-        jobs
+        self.first_job(24)
     }
 
     // The number of the first job of the pass with a number: as many jobs stand before it as the passes of lower number have.
+    #[tactic(auto, using(crate::proofs::First::jobs_before))]
     pub(crate) fn first_job(&self, number: usize) -> usize
         requires { number ≤ 24 }
         ensures { result ≡ first_job self.now.cycle (in_order self.now.passes) number }

@@ -49,6 +49,7 @@ fn instance_of(pass: Pass, first: usize, before: usize) -> Job
 }
 
 // The jobs of the first `times` instances of a pass, each at the place of its number.
+#[tactic(auto, using(crate::proofs::Instances::instances_written))]
 fn write_instances(out: &mut [u8], first: usize, pass: Pass, times: usize)
     requires { (12 * (first + times) ≤ length out.old) × (first + times ≤ 48) × (times * pass.period ≤ 48000) × (pass.phase + pass.within ≤ pass.period) }
     ensures { out.new ≡ written_at out.old first (map J (map (instance_of pass first) (count 1 times))) }
@@ -63,6 +64,7 @@ fn write_instances(out: &mut [u8], first: usize, pass: Pass, times: usize)
 }
 
 // The jobs of the pass with a number, if there is one, from the number `first` on: the number of the next job.
+#[tactic(auto, using(crate::proofs::Instances::pass_written))]
 fn write_pass(out: &mut [u8], first: usize, plan: &Plan, number: usize) -> usize
     requires known { number < 24 }
     requires room { let jobs = job_count plan.now.cycle (passes_at plan.now.passes number) in (first + jobs ≤ 48) × (12 * (first + jobs) ≤ length out.old) }
@@ -78,6 +80,7 @@ fn write_pass(out: &mut [u8], first: usize, plan: &Plan, number: usize) -> usize
 }
 
 // The jobs of all passes.
+#[tactic(auto, using(crate::proofs::Instances::jobs_written))]
 pub fn write_jobs(out: &mut [u8], plan: &Plan)
     requires few { job_count plan.now.cycle (in_order plan.now.passes) ≤ 48 }
     requires room { 12 * job_count plan.now.cycle (in_order plan.now.passes) ≤ length out.old }
@@ -121,6 +124,7 @@ impl Ends {
     }
 
     // How many links the flow has.
+    #[tactic(auto, using(crate::proofs::Matches::links_counted))]
     fn count(&self) -> usize
         ensures upper_bound { result ≤ 48 }
         ensures by_index { (latency : ℕ) → result ≡ length (matched_links self.now latency) }
@@ -133,6 +137,7 @@ impl Ends {
     }
 
     // The link of that instance at a place, if it has one: the next place.
+    #[tactic(auto, using(crate::proofs::Matches::match_written))]
     fn write_matched(&self, out: &mut [u8], place: usize, latency: u16, before: usize) -> usize
         requires inside { before < self.now.instances }
         requires room { 12 * (place + length (matched self.now latency (before + 1))) ≤ length out.old }
@@ -152,6 +157,7 @@ impl Ends {
     }
 
     // The links of the flow from a place on: the next place.
+    #[tactic(auto, using(crate::proofs::Matches::links_written))]
     fn write(&self, out: &mut [u8], place: usize, latency: u16) -> usize
         requires { 12 * (place + length (matched_links self.now latency)) ≤ length out.old }
         ensures value { result ≡ place + length (matched_links self.now latency) }
@@ -206,6 +212,7 @@ pub fn count_links(accepted: &Accepted) -> usize
 }
 
 // The links of a record's flow from a place on: the next place.
+#[tactic(auto, using(crate::proofs::Matches::flow_links_lem, crate::proofs::Matches::pass_links))]
 fn write_record(out: &mut [u8], place: usize, plan: &Plan, r: PassRecord) -> usize
     requires fits { FlowFits plan.now.passes plan.now.cycle r }
     requires room { 12 * (place + length (record_links plan.now.passes plan.now.cycle r)) ≤ length out.old }
