@@ -4,5 +4,5 @@ use mathlib.Core.Path.{ap}
 use Rattle.passes.proofs.Matches.{linked}
 use Rattle.passes.proofs.expand.Ends.write_matched.Goals as goal
 
-pub overflow_cast-link-2 : goal.overflow_cast-self-inside-2
+pub overflow_cast-link-2 : goal.overflow_cast-link-2
 overflow_cast-link-2 c = omega (arith, linked _ c.self.invariant c.args.before (omega (arith, ap (λ e. e.instances) c.self.view_is)))
