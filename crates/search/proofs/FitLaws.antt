@@ -5,13 +5,14 @@ use native.Mathlib.Omega.{arith}
 use mathlib.Core.Path.{◌≡◌, refl, sym, ap, ◌∙◌}
 use mathlib.Core.Bool.{Bool, true, false, cond, not, ◌&&◌}
 use mathlib.Core.List.{List, ◌∷◌, map}
-use lib.Dec.{leb, ltb, eqb}
+use lib.Dec.{ltb, eqb}
 use borrow.Author.Tests.{eq-eqb, ne_eqb, eqb-true, le-ltb, lt-ltb}
 use Rattle.laws.specs.Lists.{all, largest, total}
 use Rattle.laws.proofs.Members.{same_test}
 use Rattle.laws.proofs.Scanning.{keep_taken, keep_left, keep_none}
 use Rattle.laws.proofs.Keeping.{keep_from, keep_start}
 use Rattle.std.specs.Prelude.{Option, Some, None}
+use Rattle.std.proofs.lemmas.Option.{none-some, cond_some}
 use Rattle.std.specs.Option.{option_eq}
 use Rattle.search.specs.State.{number_or_none, at, is_placed, linked, start_at, remains_after, left, fits_after, together_after, rest_fits, ends_at, opens_at}
 
@@ -54,11 +55,11 @@ module _ (row : List ℕ) (placed : List Bool) (ends : List ℕ) (limit : ℕ) w
         (start_more t i (keep_from is_linked (i + 1) limit) e ∙ ap (start_at row placed ends t) (sym (keep_taken is_linked i limit below (lt-ltb 0 (at row i) (omega arith)))))
 
 -- whether job m remains after the last job, if there is one, as the code tells
-pub remains_told : (placed : List Bool) (last_job : Option ℕ) (m : ℕ) → m < 48
+pub remains_tested : (placed : List Bool) (last_job : Option ℕ) (m : ℕ) → m < 48
     → remains_after placed (number_or_none last_job) m ≡ (not (option_eq eqb last_job (Some m)) && not (is_placed placed m))
 unfolding remains_after
-remains_told placed None m below = rw (ne_eqb m 48 (λ e. omega arith)) refl
-remains_told placed (Some k) m below = ap (λ t. not t && not (is_placed placed m)) (same_test (eqb m k) (eqb k m) (turn m k, turn k m))
+remains_tested placed None m below = rw (ne_eqb m 48 (λ e. omega arith)) refl
+remains_tested placed (Some k) m below = ap (λ t. not t && not (is_placed placed m)) (same_test (eqb m k) (eqb k m) (turn m k, turn k m))
   where
     turn : (i j : ℕ) → eqb i j ≡ true → eqb j i ≡ true
     turn i j e = eq-eqb j i (sym (eqb-true i j e))
@@ -113,16 +114,12 @@ module _ (cost release deadline row : List ℕ) (limit : ℕ) (placed : List Boo
   unfolding opens_at ends_at
   opens_cost e h = step (is_placed placed k) (start_at row placed ends (max free (at release k)) (linked row limit)) h
     where
-      ended : (t : ℕ) (b : Bool) → cond b (Some (t + at cost k)) None ≡ Some e → at cost k ≤ e
-      ended t true g = let same : t + at cost k ≡ e = cc in omega arith
-      ended t false g = let z : ◌≡◌ {A = ℕ} 0 1 = cc in absurd (omega arith)
-
       step : (b : Bool) (s : Option ℕ) → cond b None (ends_at cost release deadline limit placed k s) ≡ Some e → at cost k ≤ e
-      step true s g = let z : ◌≡◌ {A = ℕ} 0 1 = cc in absurd (omega arith)
-      step false None g = let z : ◌≡◌ {A = ℕ} 0 1 = cc in absurd (omega arith)
-      step false (Some t) g = ended t (leb (t + at cost k) (at deadline k) && rest_fits cost release deadline limit placed k (t + at cost k)) g
+      step true s g = absurd (none-some e g)
+      step false None g = absurd (none-some e g)
+      step false (Some t) g = let ends : t + at cost k ≡ e = (cond_some _ _ _ g).1 in omega arith
 
 -- what `start_after` and `rest_fits` are proved by
 pub ruleset start_laws = (start_start, start_end, start_skip, start_not, start_on)
 
-pub ruleset rest_laws = (rest_start, rest_end, rest_skip, rest_not, rest_on, remains_told)
+pub ruleset rest_laws = (rest_start, rest_end, rest_skip, rest_not, rest_on, remains_tested)

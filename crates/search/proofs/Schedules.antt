@@ -6,6 +6,7 @@ use mathlib.Core.Bool.{Bool, true, false}
 use mathlib.Core.Path.{◌≡◌, refl, ap, sym, ◌∙◌}
 use mathlib.Core.Logic.{◌↔◌, ◌⊎◌, inl, inr}
 use Rattle.std.specs.Prelude.{Option, None, Some}
+use Rattle.std.proofs.lemmas.Option.{none-some}
 use mathlib.Core.List.{List, [], ◌∷◌, ◌++◌}
 use mathlib.Core.List.Memᴰ
 use mathlib.Core.List.{Memᴰ}
@@ -38,7 +39,7 @@ counted_first n p qs t e = ap (λ (s : Bool). elim s as (λ b. ℕ) [ true ↦ 1
 -- where a first full sequence is found, the list falls into parts around it
 pub first_full_some : (n : ℕ) (qs : List (List ℕ)) (q : List ℕ) → first_full n qs ≡ Some q → Around n qs q
 unfolding first_full
-first_full_some n [] q e = let z : ◌≡◌ {A = ℕ} 0 1 = cc in absurd (omega arith)
+first_full_some n [] q e = absurd (none-some q e)
 first_full_some n (p ∷ qs) q e = step (full n p) refl e (first_full_some n qs q)
   where
     step : (t : Bool) → full n p ≡ t → ◌≡◌ {A = Option (List ℕ)} (elim t [ true ↦ Some p | false ↦ first_full n qs ]) (Some q) → (first_full n qs ≡ Some q → Around n qs q) → Around n (p ∷ qs) q
@@ -65,7 +66,7 @@ first_full_none n (p ∷ qs) e = step (full n p) refl e (first_full_none n qs)
     step : (t : Bool) → full n p ≡ t → ◌≡◌ {A = Option (List ℕ)} (elim t [ true ↦ Some p | false ↦ first_full n qs ]) None
         → (first_full n qs ≡ None → Every (λ p. full n p ≡ false) qs × (up_to_full n qs ≡ length qs))
         → Every (λ p. full n p ≡ false) (p ∷ qs) × (up_to_full n (p ∷ qs) ≡ length (p ∷ qs))
-    step true h e below = let z : ◌≡◌ {A = ℕ} 0 1 = cc in absurd (omega arith)
+    step true h e below = absurd (none-some p (sym e))
     step false h e below = let r = below e in ((h, r.0), counted_first n p qs false h ∙ omega (arith, r.1))
 
 -- there is only one first full sequence
@@ -178,7 +179,7 @@ module _ (table : List JobRecord) (sound : Sound table) where
       step None e = (schedule_none e).1 ∙ ap length (lists_unique table (open_sequences table) qs listed all)
       step (Some q) e = let f = schedule_first q e in absurd (h q f.is_open f.is_full)
 
-  -- the openings are those of 01, in plain words
+  -- the openings are the number of open sequences up to and including the schedule, and of all of them where there is none
   pub openings_right : Openings table (openings table)
   openings_right = step (schedule table) refl
     where

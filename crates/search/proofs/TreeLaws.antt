@@ -92,14 +92,14 @@ module _ (g : Given) (budget : ℕ) where
       step : (p q : Bool) → (seen x n (walk g budget xs (n + 1)) p q).number ≡ 10 → ((walk g budget xs (n + 1)).number ≡ 10 → (walk g budget xs (n + 1)).bytes ≡ [])
           → (seen x n (walk g budget xs (n + 1)) p q).bytes ≡ []
       step true q h ih = refl
-      step false true h ih = let z : ◌≡◌ {A = ℕ} 0 10 = h in absurd (omega arith)
+      step false true h ih = absurd (omega (arith, h))
       step false false h ih = ih h
 
 -- an answer that is not of the kind that goes on
 some_found : (r : Found) → ((m : ℕ) → r ≡ Nothing m → ⊥) → number_of r ≡ 10 → ⊥
-some_found (Schedule m) h e = let z : ◌≡◌ {A = ℕ} 0 10 = e in absurd (omega arith)
+some_found (Schedule m) h e = absurd (omega (arith, e))
 some_found (Nothing m) h e = h m refl
-some_found (Spent m) h e = let z : ◌≡◌ {A = ℕ} 11 10 = e in absurd (omega arith)
+some_found (Spent m) h e = absurd (omega (arith, e))
 
 module _ (g : Given) (s : State) (d b n : ℕ) where
   -- what each return of `open` shows

@@ -61,28 +61,27 @@ impl<'a> Problem<'a> {
                 openings: opened + 1,
             };
         }
-        self.try_next(&s, depth, opened + 1, out)
+        self.try_next(&s, 0, depth, opened + 1, out)
     }
 
-    // Tries each job as the next one: opens the sequence with it, if it may come next.
+    // Tries the jobs from `from` on as the next one: opens the sequence with the first of them that may come next, and then tries those after it.
     #[cycle(open_try_next)]
-    fn try_next(&self, s: &State, depth: usize, opened: u32, out: &mut [u8]) -> Found
+    fn try_next(&self, s: &State, from: usize, depth: usize, opened: u32, out: &mut [u8]) -> Found
         requires depth_in { depth < self.now.count }
         requires within_budget { opened ≤ self.now.budget }
         requires room { 12 * self.now.count ≤ length out.old }
         requires have_run { HaveRun self.now.jobs.now.cost s.now.order s.now.ends depth }
         ensures openings_le_budget { openings_of result ≤ self.now.budget }
-        ensures answers { Answers (trying (given_of self.now) self.now.budget s.now depth 0 opened) result out.old out.new }
+        ensures answers { Answers (trying (given_of self.now) self.now.budget s.now depth from opened) result out.old out.new }
     {
-        let mut openings = opened;
-        for k in 0..self.limit {
+        for k in from..self.limit {
             if let Some(end) = self.opens_at(s, k) {
-                match self.open(s.place(k, end, depth), depth + 1, openings, out) {
-                    Found::Nothing { openings: so_far } => openings = so_far,
-                    found => return found,
-                }
+                return match self.open(s.place(k, end, depth), depth + 1, opened, out) {
+                    Found::Nothing { openings } => self.try_next(s, k + 1, depth, openings, out),
+                    found => found,
+                };
             }
         }
-        Found::Nothing { openings }
+        Found::Nothing { openings: opened }
     }
 }

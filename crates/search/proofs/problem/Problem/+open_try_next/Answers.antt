@@ -3,7 +3,6 @@ use Rattle.std.proofs.Common.{sym, ◌∙◌, rules}
 use Rattle.search.proofs.FitLaws.{opens_cost}
 use Rattle.search.proofs.TreeLaws.{open_spent, open_full, open_on, next_none, next_stop, next_not, next_on, next_kept, answers_same}
 use Rattle.search.proofs.problem.Problem.+open_try_next.Goals as goal
-use Rattle.search.proofs.problem.Problem.+open_try_next.Goals.{try_next-in-Some+in-Nothing, try_next-in_default}
 
 pub open-returns-then-opened-self-clause-answers : goal.open-returns-then-opened-self-clause-answers
 open-returns-then-opened-self-clause-answers t c = open_spent _ _ _ _ _ _ c.if-opened-self.true
@@ -18,6 +17,13 @@ pub try_next-open-requires : goal.try_next-open-requires
 try_next-open-requires t c =
     let ran = c.place.ensures.by_index c.args.self.now.jobs.now.cost c.requires.have_run (opens_cost _ _ _ _ _ _ _ _ _ _ (sym c.opens_at.ensures ∙ c.in-Some.is)) in
     (search rules, (search rules, (search rules, (search rules, ran))))
+pub try_next-returns-in-Nothing-clause-answers : goal.try_next-returns-in-Nothing-clause-answers
+try_next-returns-in-Nothing-clause-answers t c =
+    let ends = sym c.opens_at.ensures ∙ c.in-Some.is in
+    answers_same _ _ _ _ _ _
+    (next_on _ _ _ _ _ _ c.loop-k-test.true _ _ ends c.place.ensures.value _ _ _ c.open.ensures.answers _ c.in-Nothing.is ∙ c.loop-k.invariant.value)
+    (next_kept _ _ _ _ _ _ c.loop-k-test.true _ _ ends c.place.ensures.value _ _ _ c.open.ensures.answers _ c.in-Nothing.is ∙ c.loop-k.invariant.kept)
+    c.try_next.ensures.answers
 
 pub try_next-returns-in_default-open : goal.try_next-returns-in_default-open
 try_next-returns-in_default-open t c = record {
@@ -27,23 +33,10 @@ try_next-returns-in_default-open t c = record {
 }
 
 pub try_next-loop-k-preserved : goal.try_next-loop-k-preserved
-try_next-loop-k-preserved t c =
-    elim c.match-opens_at.branch [
-      | try_next-in-Some+in-Nothing w ↦
-          let ends = sym c.opens_at.ensures ∙ w.in-Some.is in
-          record {
-            within = search rules;
-            kept = w.out-is ∙ next_kept _ _ _ _ _ _ c.loop-k-test.true _ _ ends w.place.ensures.value _ _ _ w.open.ensures.answers _ w.in-Nothing.is ∙ c.loop-k.invariant.kept;
-            value = rw w.openings-is
-                (next_on _ _ _ _ _ _ c.loop-k-test.true _ _ ends w.place.ensures.value _ _ _ w.open.ensures.answers _ w.in-Nothing.is ∙ c.loop-k.invariant.value);
-          }
-      | try_next-in_default w ↦
-          record {
-            within = search rules;
-            kept = search rules;
-            value = rw w.openings-is (next_not _ _ _ _ _ _ c.loop-k-test.true (sym c.opens_at.ensures ∙ w.in_default.is) ∙ c.loop-k.invariant.value);
-          }
-    ]
+try_next-loop-k-preserved t c = record {
+  kept = c.loop-k.invariant.kept;
+  value = next_not _ _ _ _ _ _ c.loop-k-test.true (sym c.opens_at.ensures ∙ c.in_default.is) ∙ c.loop-k.invariant.value;
+}
 
 pub try_next-returns-clause-answers : goal.try_next-returns-clause-answers
 try_next-returns-clause-answers t c = answers_same _ _ _ _ _ _ c.loop-k.invariant.value c.loop-k.invariant.kept (next_none _ _ _ _ _ _ _ c.loop-k-test.false)
