@@ -13,25 +13,18 @@ use records::JobRecord;
 use records::refusal::Refusal;
 use tables::judge::{Judged, judge};
 
-// The jobs of a table, and the square of the gaps between them.
-#[derive(Clone, Copy)]
-pub(crate) struct Held {
-    pub(crate) jobs: Jobs,
-    pub(crate) square: [[u32; 48]; 48],
-}
-
-// The jobs and the gaps of a table that permits start times, or the first refusal that holds.
-pub(crate) fn hold(bytes: &[u8]) -> Result<Held, Refusal>
-    ensures { MatchResult result (λ held. Holds (job_table bytes.now) held.jobs held.square × ((later : ℕ) → jobs_number bytes.now (starts_number (job_table bytes.now) later) ≡ later)) (λ refusal. (later : ℕ) → jobs_number bytes.now (starts_number (job_table bytes.now) later) ≡ number_of refusal) }
+// The jobs of a table that permits start times, with the gaps between them put into a square, or the first refusal that holds.
+pub(crate) fn hold(bytes: &[u8], square: &mut [[u32; 48]; 48]) -> Result<Jobs, Refusal>
+    ensures { MatchResult result (λ jobs. Holds (job_table bytes.now) jobs square.new × ((later : ℕ) → jobs_number bytes.now (starts_number (job_table bytes.now) later) ≡ later)) (λ refusal. (later : ℕ) → jobs_number bytes.now (starts_number (job_table bytes.now) later) ≡ number_of refusal) }
 {
     let judged: Judged<JobRecord> = judge(bytes)?;
     let jobs = load_jobs(&judged);
-    let square = gaps(jobs, load_links(&judged));
-    if ring_in(square) {
+    *square = gaps(jobs, load_links(&judged));
+    if ring_in(*square) {
         return Err(Refusal::Ring);
     }
-    if no_starts(jobs, square) {
+    if no_starts(jobs, *square) {
         return Err(Refusal::NoStarts);
     }
-    Ok(Held { jobs, square })
+    Ok(jobs)
 }

@@ -15,14 +15,15 @@ use records::refusal::Refusal;
 fn normalise(jobs: &[u8], out: &mut [u8]) -> Result<u32, Refusal>
     ensures { Writes (normalise jobs.now (length out.old)) out.old result out.new }
 {
-    let held = hold(jobs)?;
-    let tight = windows(held.jobs, held.square);
-    let links = choose(held.jobs, tight, held.square);
-    let room = 12 * (count_jobs(held.jobs) + count_links(links));
+    let mut square = [[0; 48]; 48];
+    let held = hold(jobs, &mut square)?;
+    let tight = windows(held, square);
+    let links = choose(held, tight, square);
+    let room = 12 * (count_jobs(held) + count_links(links));
     if out.len() < room {
         return Err(Refusal::NoRoom);
     }
-    write_normal(out, held.jobs, tight, links);
+    write_normal(out, held, tight, links);
     Ok(room as u32)
 }
 

@@ -37,14 +37,15 @@ fn answered(found: Found, room: u32) -> Scheduled
 fn schedule(jobs: &[u8], budget: u32, out: &mut [u8]) -> Result<Scheduled, Refusal>
     ensures { Schedules (scheduled jobs.now budget (length out.old)) out.old result out.new }
 {
-    let held = hold(jobs)?;
-    let room = 12 * count_jobs(held.jobs);
+    let mut square = [[0; 48]; 48];
+    let held = hold(jobs, &mut square)?;
+    let room = 12 * count_jobs(held);
     if out.len() < room {
         return Err(Refusal::NoRoom);
     }
-    let tight = windows(held.jobs, held.square);
-    let into = turned(choose(held.jobs, tight, held.square));
-    let found = search(tightened(held.jobs, tight), &into, budget, out);
+    let tight = windows(held, square);
+    let into = turned(choose(held, tight, square));
+    let found = search(tightened(held, tight), &into, budget, out);
     Ok(answered(found, room as u32))
 }
 

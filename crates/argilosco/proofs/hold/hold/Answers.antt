@@ -22,12 +22,12 @@ pub returns-then-ring_in : goal.returns-then-ring_in
 returns-then-ring_in c later =
     let same = c.in_ok-judged.ensures.0 in
     let well = formed 0 (sym (judged_number c.args.bytes.now 0) ∙ c.in_ok-judged.ensures.1 0) in
-    let square = c.gaps-square.ensures (job_table c.args.bytes.now) (c.load_jobs-jobs.ensures ∙ ap (λ (b : List ℕ). jobs_of (job_table b)) same) (c.load_links.ensures ∙ ap (λ (b : List ℕ). links_of (job_table b)) same) in
+    let square = c.gaps.ensures (job_table c.args.bytes.now) (c.load_jobs-jobs.ensures ∙ ap (λ (b : List ℕ). jobs_of (job_table b)) same) (c.load_links.ensures ∙ ap (λ (b : List ℕ). links_of (job_table b)) same) in
     ring_number well square later (sym c.if-ring_in.true ∙ c.ring_in.ensures)
 
 pub no_starts-requires : goal.no_starts-requires
 no_starts-requires c =
-    let square = c.gaps-square.ensures _ c.load_jobs-jobs.ensures c.load_links.ensures in
+    let square = c.gaps.ensures _ c.load_jobs-jobs.ensures c.load_links.ensures in
     rw square (capped_within ceiling _)
 
 pub returns-then-no_starts : goal.returns-then-no_starts
@@ -35,7 +35,7 @@ returns-then-no_starts c later =
     let same = c.in_ok-judged.ensures.0 in
     let well = formed 0 (sym (judged_number c.args.bytes.now 0) ∙ c.in_ok-judged.ensures.1 0) in
     let jobs = c.load_jobs-jobs.ensures ∙ ap (λ (b : List ℕ). jobs_of (job_table b)) same in
-    let square = c.gaps-square.ensures (job_table c.args.bytes.now) jobs (c.load_links.ensures ∙ ap (λ (b : List ℕ). links_of (job_table b)) same) in
+    let square = c.gaps.ensures (job_table c.args.bytes.now) jobs (c.load_links.ensures ∙ ap (λ (b : List ℕ). links_of (job_table b)) same) in
     starts_number_lem well square (sym c.if-ring_in.false ∙ c.ring_in.ensures) later (sym c.if-no_starts.true ∙ c.no_starts.ensures _ jobs)
 
 pub returns : goal.returns
@@ -43,6 +43,6 @@ returns c =
     let same = c.in_ok-judged.ensures.0 in
     let well = formed 0 (sym (judged_number c.args.bytes.now 0) ∙ c.in_ok-judged.ensures.1 0) in
     let jobs = c.load_jobs-jobs.ensures ∙ ap (λ (b : List ℕ). jobs_of (job_table b)) same in
-    let square = c.gaps-square.ensures (job_table c.args.bytes.now) jobs (c.load_links.ensures ∙ ap (λ (b : List ℕ). links_of (job_table b)) same) in
+    let square = c.gaps.ensures (job_table c.args.bytes.now) jobs (c.load_links.ensures ∙ ap (λ (b : List ℕ). links_of (job_table b)) same) in
     let held = table_held well square (sym c.if-ring_in.false ∙ c.ring_in.ensures) _ jobs (sym c.if-no_starts.false ∙ c.no_starts.ensures _ jobs) in
     (held, held_number well held)
