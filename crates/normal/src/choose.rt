@@ -32,10 +32,17 @@ pub fn choose(jobs: Jobs, windows: Windows, square: [[u32; 48]; 48]) -> [[u16; 4
     requires { (i j : ℕ) → Writable (get_or jobs.cost i 0) (cell square i j) }
     ensures { result ≡ chosen jobs windows square }
 {
-    array::from_fn(|i|
-        requires { (i < 48) × ((j : ℕ) → Writable (get_or jobs.cost i 0) (cell square i j)) }
-        ensures { result ≡ chosen_row (get_or jobs.cost i 0) (get_or windows.latest i 0) windows.earliest (get_or square i []) }
-    {
-        choose_row(jobs.cost[i], windows.latest[i], &windows.earliest, &square[i])
-    })
+    array::from_fn(
+        |i|
+            requires { (i < 48) × ((j : ℕ) → Writable (get_or jobs.cost i 0) (cell square i j)) }
+            ensures { result ≡ chosen_row (get_or jobs.cost i 0) (get_or windows.latest i 0) windows.earliest (get_or square i []) }
+        {
+            choose_row(
+                jobs.cost[i],
+                windows.latest[i],
+                &windows.earliest,
+                &square[i],
+            )
+        },
+    )
 }

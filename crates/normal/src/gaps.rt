@@ -33,12 +33,12 @@ fn link_row(cost: u16, links: &[u16; 48]) -> [u32; 48]
 fn link_square(cost: [u16; 48], links: [[u16; 48]; 48]) -> [[u32; 48]; 48]
     ensures { result ≡ capped ceiling (weighed cost links) }
 {
-    array::from_fn(|i|
-        requires { i < 48 }
-        ensures { result ≡ map (min ceiling) (map (gaps.weight (get_or cost i 0)) (get_or links i [])) }
-    {
-        link_row(cost[i], &links[i])
-    })
+    array::from_fn(
+        |i|
+            requires { i < 48 }
+            ensures { result ≡ map (min ceiling) (map (gaps.weight (get_or cost i 0)) (get_or links i [])) }
+        { link_row(cost[i], &links[i]) },
+    )
 }
 
 // A cell with the chain through a job: a leads to that job and b on from it, and c is the longest so far.
@@ -54,7 +54,7 @@ fn widened_cell(c: u32, a: u32, b: u32) -> u32
 
 // A row with the chains through a job: a is the row's own chain to that job, and `through` that job's row.
 fn widened_row(a: u32, row: &[u32; 48], through: &[u32; 48]) -> [u32; 48]
-    requires { (0 < a) × (a ≤ ceiling) × ((j : ℕ) → get_or row.now j 0 ≤ ceiling) × ((j : ℕ) → get_or through.now j 0 ≤ ceiling) }
+    requires { (0 < a) × (a ≤ ceiling) × ((j : ℕ) → (get_or row.now j 0 ≤ ceiling) × (get_or through.now j 0 ≤ ceiling)) }
     ensures { result ≡ map (min ceiling) (gaps.widened a row.now through.now) }
 {
     array::from_fn(|j| widened_cell(row[j], a, through[j]))
@@ -78,8 +78,7 @@ fn round(k: usize, square: &mut [[u32; 48]; 48])
 pub fn gaps(jobs: Jobs, links: [[u16; 48]; 48]) -> [[u32; 48]; 48]
     ensures { (table : List JobRecord) → jobs ≡ jobs_of table → links ≡ links_of table → result ≡ capped ceiling (gaps.gaps table) }
 {
-    let cost = jobs.cost;
-    let mut square = link_square(cost, links);
+    let mut square = link_square(jobs.cost, links);
     for k in 0..48 {
         if jobs.present[k] {
             round(k, &mut square);
@@ -88,7 +87,7 @@ pub fn gaps(jobs: Jobs, links: [[u16; 48]; 48]) -> [[u32; 48]; 48]
     square
 }
 
-// 7: the links form a ring.
+// Whether the links form a ring: a chain leads from some job back to it.
 pub fn ring_in(square: [[u32; 48]; 48]) -> bool
     ensures { result ≡ gaps.ring_in square }
 {

@@ -17,7 +17,8 @@ widened_row-requires c =
     let l = c.loop-row in
     let within : RowWithin ceiling (get_or l.row-items l.row-index []) = rw (row_now ceiling a.k a.square.now c.requires.1 l.row-index l.row-items (omega arith) l.invariant) (row_of ceiling a.k a.square.now c.requires.1 l.row-index) in
     let cells = every_get_d (λ x. x ≤ ceiling) (get_or l.row-items l.row-index []) 0 (omega arith) within in
-    (search rules, cells a.k, cells, every_get_d (λ x. x ≤ ceiling) (get_or a.square.now a.k []) 0 (omega arith) (row_of ceiling a.k a.square.now c.requires.1 a.k))
+    let through = every_get_d (λ x. x ≤ ceiling) (get_or a.square.now a.k []) 0 (omega arith) (row_of ceiling a.k a.square.now c.requires.1 a.k) in
+    (search rules, cells a.k, λ j. (cells j, through j))
 
 pub loop-row-preserved : goal.loop-row-preserved
 loop-row-preserved c =

@@ -1,7 +1,5 @@
 -- `normal::gaps::round` meets its contract. The loop's invariant: the rows before this one have the chains through k, and the others are as they were. Assumes nothing.
 use mathlib.Core.Path.{◌≡◌}
-use mathlib.Core.List.{[]}
-use lib.ListN.{length, get_or}
 use Rattle.normal.specs.Arrays.{ceiling}
 use Rattle.normal.proofs.RoundLoop.{passing}
 use Rattle.normal.proofs.gaps.round.Given as goal
