@@ -1,5 +1,5 @@
 // The choice of links: a pair joined by a chain is written exactly when its gap is over what the windows say.
-ghost use Rattle.std.specs.Prelude.{◌≡◌, ◌<◌, ℕ, get_or, []};
+ghost use Rattle.std.specs.Prelude.{◌≡◌, ℕ, get_or};
 ghost use Rattle.normal.specs.Gaps.{cell};
 ghost use Rattle.normal.specs.Chosen.{chosen_cell, chosen_row, chosen, Writable};
 
@@ -32,17 +32,14 @@ pub fn choose(jobs: Jobs, windows: Windows, square: [[u32; 48]; 48]) -> [[u16; 4
     requires { (i j : ℕ) → Writable (get_or jobs.cost i 0) (cell square i j) }
     ensures { result ≡ chosen jobs windows square }
 {
-    array::from_fn(
-        |i|
-            requires { (i < 48) × ((j : ℕ) → Writable (get_or jobs.cost i 0) (cell square i j)) }
-            ensures { result ≡ chosen_row (get_or jobs.cost i 0) (get_or windows.latest i 0) windows.earliest (get_or square i []) }
-        {
-            choose_row(
-                jobs.cost[i],
-                windows.latest[i],
-                &windows.earliest,
-                &square[i],
-            )
-        },
-    )
+    let mut links = [[0; 48]; 48];
+    for i in 0..48 {
+        links[i] = choose_row(
+            jobs.cost[i],
+            windows.latest[i],
+            &windows.earliest,
+            &square[i],
+        );
+    }
+    links
 }

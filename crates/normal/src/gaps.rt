@@ -1,9 +1,9 @@
 // The longest gap between every two jobs: a square of gaps by value, 48 by 48. A cell of 0 says that no chain leads from i to j.
-ghost use Rattle.std.specs.Prelude.{◌≡◌, ℕ, List, map, ◌≤◌, ◌<◌, min, max, length, get_or, []};
+ghost use Rattle.std.specs.Prelude.{◌≡◌, ℕ, List, map, ◌≤◌, ◌<◌, min, max, get_or};
 ghost use Rattle.records.specs.declared.JobRecord.{JobRecord};
 ghost use Rattle.jobs.specs.Arrays.{jobs_of, links_of};
 ghost use Rattle.normal.specs.Gaps as gaps;
-ghost use Rattle.normal.specs.Arrays.{ceiling, capped, weighed, RowWithin, Within};
+ghost use Rattle.normal.specs.Arrays.{ceiling, capped, weighed, Within};
 
 use jobs::Jobs;
 use std::array;
@@ -33,12 +33,11 @@ fn link_row(cost: u16, links: &[u16; 48]) -> [u32; 48]
 fn link_square(cost: [u16; 48], links: [[u16; 48]; 48]) -> [[u32; 48]; 48]
     ensures { result ≡ capped ceiling (weighed cost links) }
 {
-    array::from_fn(
-        |i|
-            requires { i < 48 }
-            ensures { result ≡ map (min ceiling) (map (gaps.weight (get_or cost i 0)) (get_or links i [])) }
-        { link_row(cost[i], &links[i]) },
-    )
+    let mut square = [[0; 48]; 48];
+    for i in 0..48 {
+        square[i] = link_row(cost[i], &links[i]);
+    }
+    square
 }
 
 // A cell with the chain through a job: a leads to that job and b on from it, and c is the longest so far.
