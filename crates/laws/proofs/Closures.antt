@@ -48,11 +48,12 @@ module _ {F B : Type 0} (g : Mut F (ℕ × Unit {0}) B) (f : F) (h : ℕ → B) 
       ∙ ap (map h) (numbers_same 0 n)
 
 -- its test holds of some number below n exactly when the function's does
-pub any_below : {F : Type 0} {g : Mut F (ℕ × Unit {0}) Bool} (n : ℕ) (test : ℕ → Bool) (s u : Range ℕ) (f : F) {r : Bool} → s ≡ record { start = 0; end = n }
+pub any_below : {F : Type 0} {g : Mut F (ℕ × Unit {0}) Bool} (n : ℕ) (test : ℕ → Bool) (s u : Range ℕ) (f : F) {r : Bool}
     → (xs : List ℕ) × (o : Option ℕ) × (j : F) × YieldsThen nat_range_steps s xs o u × FoldsTo (λ p x q. Called g p (x, tt) false q) f xs j × MatchOption o (r ≡ false) (λ x. (r ≡ true) × ((h : F) × Called g j (x, tt) true h))
+    → s ≡ record { start = 0; end = n }
     → ((x : ℕ) (b : Bool) (q : F) → Called g f (x, tt) b q → (q ≡ f) × (b ≡ test x))
     → r ≡ any test (count 0 n)
-any_below n test s u f {r} range ran says =
+any_below n test s u f {r} ran range says =
     any_from_yields_List test u f r ran (YieldsList-from_range 0 n n range (omega arith)) says
     ∙ ap (list_any test) (numbers_same 0 n)
     ∙ any_same test (count 0 n)
