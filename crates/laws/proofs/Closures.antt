@@ -8,7 +8,7 @@ use mathlib.Core.List.{List, [], ◌∷◌, map}
 use lib.ListN.{get_or}
 use denote.Param.Members.{Mut}
 use Rattle.std.specs.Prelude.{Option}
-use Rattle.std.specs.List.{range_with_len, list_any, FoldsTo}
+use Rattle.std.specs.List.{list_any, FoldsTo}
 use Rattle.std.specs.Option.{MatchOption}
 use Rattle.std.specs.Fn.{Called}
 use Rattle.std.specs.Array.{IsFromFnResultFrom, IsFromFnResult}
@@ -19,12 +19,9 @@ use Rattle.std.proofs.lemmas.List.FromFn.{fill_by_all}
 use Rattle.std.proofs.lemmas.Iterator.{YieldsList-from_range}
 use Rattle.std.proofs.lemmas.Iterator.Search.{any_from_yields_List}
 use Rattle.laws.specs.Lists.{count, any}
+use Rattle.laws.proofs.Lists.{numbers_same}
 
--- std's words for numbers in a row, and for a test that holds of some element, are ours
-numbers_same : (m n : ℕ) → range_with_len m n ≡ count m n
-numbers_same m zero = refl
-numbers_same m (suc n) = ap (◌∷◌ m) (numbers_same (m + 1) n)
-
+-- std's word for a test that holds of some element is ours
 any_same : (test : ℕ → Bool) (xs : List ℕ) → list_any test xs ≡ any test xs
 any_same test [] = refl
 any_same test (x ∷ xs) = ap (λ t. test x || t) (any_same test xs)

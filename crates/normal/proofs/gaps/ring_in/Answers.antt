@@ -1,3 +1,4 @@
+-- `normal::gaps::ring_in` meets its contract: the test of each number is the one of the definition. Assumes nothing.
 use mathlib.Core.Path.{refl}
 use mathlib.Core.Bool.{not}
 use lib.Dec.{eqb}
