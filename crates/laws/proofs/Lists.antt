@@ -5,8 +5,14 @@ use mathlib.Core.Path.{◌≡◌, refl, ap, ap₂, ◌∙◌}
 use mathlib.Core.Bool.{Bool, true, false, cond, and-eq-true_iff}
 use mathlib.Core.List.{List, [], ◌∷◌, map}
 use Rattle.std.specs.Prelude.{Option, None, Some}
+use Rattle.std.specs.List.{range_with_len}
 use lib.ListN.{length, get_or, drop}
 use Rattle.laws.specs.Lists.{count, all, Every}
+
+-- std's word for numbers in a row is ours
+pub numbers_same : (m n : ℕ) → range_with_len m n ≡ count m n
+numbers_same m zero = refl
+numbers_same m (suc n) = ap (◌∷◌ m) (numbers_same (m + 1) n)
 
 module _ {A : Type 0} where
   -- two lists are equally long and have equal elements at equal places

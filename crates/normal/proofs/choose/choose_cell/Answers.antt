@@ -1,3 +1,4 @@
+-- `normal::choose::choose_cell` meets its contract: the tests pick the case of `chosen_cell`. Assumes nothing.
 use mathlib.Core.Path.{sym}
 use native.Mathlib.Omega.{arith}
 use Rattle.normal.proofs.ChosenLaws.{chosen_none, chosen_over, chosen_under}

@@ -1,3 +1,4 @@
+-- `normal::choose::choose_row` meets its contract: each cell is the chosen one. Assumes nothing.
 use borrow.Author.Rules.{rules}
 use lib.ListN.{get_or}
 use Rattle.laws.proofs.Closures.{array_by_number}

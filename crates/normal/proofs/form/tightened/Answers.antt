@@ -1,3 +1,4 @@
+-- `normal::form::tightened` meets its contract: each deadline is the latest start and the cost. Assumes nothing.
 use Prim.Native.Nat.{◌+◌}
 use borrow.Author.Rules.{rules}
 use lib.ListN.{get_or}

@@ -1,3 +1,4 @@
+-- `normal::form::turned_row` meets its contract: each cell is the link from its number. Assumes nothing.
 use borrow.Author.Rules.{rules}
 use Rattle.laws.proofs.Closures.{array_by_number}
 use Rattle.normal.specs.Gaps.{cell}

@@ -1,3 +1,4 @@
+-- `normal::gaps::link_row` meets its contract: each cell is what its link weighs. Assumes nothing.
 use mathlib.Core.Path.{sym, ◌∙◌}
 use mathlib.Core.List.{map-map}
 use Prim.Native.Nat.{min}

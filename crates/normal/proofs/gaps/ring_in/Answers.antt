@@ -1,3 +1,4 @@
+-- `normal::gaps::ring_in` meets its contract: the test of each number is the one of the definition. Assumes nothing.
 use mathlib.Core.Path.{refl}
 use mathlib.Core.Bool.{not}
 use lib.Dec.{eqb}
@@ -9,4 +10,4 @@ use Rattle.normal.proofs.gaps.ring_in.Goals as goal
 
 pub returns : goal.returns
 unfolding ring_in
-returns c = any_below 48 (λ n. not (eqb (cell c.args.square n n) 0)) _ _ _ refl c.any.ensures.ran (λ x b q k. search (rules, tests))
+returns c = any_below 48 (λ n. not (eqb (cell c.args.square n n) 0)) _ _ _ c.any.ensures.ran refl (λ x b q k. search (rules, tests))

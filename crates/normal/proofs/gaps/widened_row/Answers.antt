@@ -1,3 +1,4 @@
+-- `normal::gaps::widened_row` meets its contract: each cell is the one of the row with the chains through the job. Assumes nothing.
 use Prim.Native.Nat.{min, max}
 use mathlib.Core.Path.{◌∙◌}
 use native.Mathlib.Omega.{arith}
