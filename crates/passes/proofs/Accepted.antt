@@ -13,12 +13,12 @@ use Rattle.records.proofs.Finding.{whole_records}
 use Rattle.passes.specs.declared.Passes.{Passes}
 use Rattle.passes.specs.Expand.{passes_in_order, flows_of, flow_links, job_count}
 use Rattle.passes.specs.Call.{pass_table}
-use Rattle.passes.specs.Timely.{in_order}
+use Rattle.passes.specs.Timely.{in_order, AllTimely}
 use Rattle.passes.specs.Arrays.{Accepted}
 use Rattle.passes.specs.Ends.{record_links, FlowFits}
 use Rattle.passes.proofs.Held.{held_order}
 use Rattle.passes.proofs.Flows.{links_each, record_fits}
-use Rattle.passes.proofs.Judging.{Within, accepted}
+use Rattle.passes.proofs.Judging.{Within, accepted, timely_held}
 
 module _ (bytes : List ℕ) {passes : Passes} {cycle : ℕ} (ok : Accepted bytes passes cycle) where
   -- none of 1 to 6 holds
@@ -31,6 +31,13 @@ module _ (bytes : List ℕ) {passes : Passes} {cycle : ℕ} (ok : Accepted bytes
 
   pub all_read : unreadable (read_all in_passes bytes) ≡ None
   all_read = within.two
+
+  -- what a plan keeps is true of them: its passes' windows lie within their periods, and its cycle is within the limit
+  pub all_timely : AllTimely passes
+  all_timely = timely_held (pass_table bytes) ok.passes within.sound
+
+  pub cycle_within : cycle ≤ 48000
+  cycle_within = rw ok.cycle within.ticks
 
   -- its passes by rising number are the table's
   pub passes_order : in_order passes ≡ passes_in_order (pass_table bytes)

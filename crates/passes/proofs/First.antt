@@ -3,7 +3,9 @@ use Prim.Native.Nat.{ℕ, zero, suc, ◌+◌, ◌-◌, ◌<◌, ◌≤◌}
 use native.Mathlib.Omega.{arith}
 use mathlib.Core.Path.{◌≡◌, refl, sym, ap, ◌∙◌}
 use mathlib.Core.Bool.{Bool, true, false}
-use mathlib.Core.List.{List, ◌++◌}
+use mathlib.Core.List.{List, ◌++◌, map}
+use Rattle.std.specs.List.{sum, range_with_len}
+use Rattle.std.proofs.lemmas.List.Sums.{sum_by-cons}
 use lib.Dec.{ltb}
 use lib.ListN.{get_or}
 use borrow.Author.Tests.{lt-ltb, le-ltb, ltb-true, ltb-false}
@@ -84,5 +86,12 @@ module _ (passes : Passes) (cycle : ℕ) where
   pub first_within : (n : ℕ) → n < 24 → first_job cycle (in_order passes) n + job_count cycle (passes_at passes n) ≤ job_count cycle (in_order passes)
   first_within n h = omega (arith, first_order n 24 h h, first_all)
 
--- what counting the jobs before a pass's rests on
-pub ruleset jobs_before = (from_none, first_more, first_end)
+-- the jobs before those of the pass with a number are the instances of the passes of lower number, summed
+pub first_summed : (passes : Passes) (cycle n : ℕ) → n ≤ 24 → sum (map (λ lower. job_count cycle (passes_at passes lower)) (range_with_len 0 n)) ≡ first_job cycle (in_order passes) n
+first_summed passes cycle n low = go 0 n (omega arith) ∙ ap (λ ps. first_job cycle ps n) (sym (from_none passes))
+  where
+    go : (m k : ℕ) → m + k ≡ n → sum (map (λ lower. job_count cycle (passes_at passes lower)) (range_with_len m k)) ≡ first_job cycle (passes_from passes m) n
+    go m zero e = sym (first_end passes cycle m n (omega arith))
+    go m (suc k) e =
+        sum_by-cons (λ x. x) (job_count cycle (passes_at passes m)) (map (λ lower. job_count cycle (passes_at passes lower)) (range_with_len (m + 1) k))
+        ∙ ap (λ rest. job_count cycle (passes_at passes m) + rest) (go (m + 1) k (omega arith)) ∙ sym (first_more passes cycle m n (omega arith) (omega arith))

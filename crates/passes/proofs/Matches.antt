@@ -1,12 +1,12 @@
 -- The links of a flow, found one after another: a turn of the loop takes an instance of the source, which has one link or none, and those of the instances after it are left.
-use Prim.Native.Nat.{ℕ, ◌+◌, ◌-◌, ◌*◌, ◌/◌, ◌<◌, ◌≤◌}
+use Prim.Native.Nat.{ℕ, zero, suc, ◌+◌, ◌-◌, ◌*◌, ◌/◌, ◌<◌, ◌≤◌}
 use native.Mathlib.Omega.{arith}
 use mathlib.Core.Path.{◌≡◌, refl, sym, ap, ◌∙◌}
 use mathlib.Core.Bool.{Bool, true, false}
 use mathlib.Core.List.{List, [], ◌∷◌, ◌++◌, map, map-append}
 use lib.ListN.{length, drop, length-append, length-map}
 use lib.Seq.{paste}
-use Rattle.std.specs.Int.{from_bool}
+use Rattle.std.specs.List.{filter, range_with_len}
 use Rattle.laws.specs.Lists.{count, flat}
 use Rattle.laws.proofs.Walking.{Next}
 use Rattle.laws.proofs.Gathering.{gather_more, gather_end}
@@ -22,11 +22,6 @@ use Rattle.records.proofs.Writing.{written, written_none, written_one, written_m
 use Rattle.passes.specs.declared.Passes.{Passes}
 use Rattle.passes.proofs.Numbers.{count_next, count_none}
 use Rattle.passes.specs.Ends.{FlowEnds, ends_of, matches, matched, matched_links, record_links, EndsFit, FlowFits}
-
--- an instance has one link at most
-pub match_once : (t : Bool) → from_bool t ≤ 1
-match_once true = omega arith
-match_once false = omega arith
 
 -- the links of the instances after `before` of the source's
 abbrev pub matched_from : FlowEnds → ℕ → ℕ → List Link
@@ -63,13 +58,6 @@ module _ (e : FlowEnds) (latency : ℕ) where
     pub none_long : matches e (before + 1) ≡ false → length (matched e latency (before + 1)) ≡ 0
     none_long t = ap length (no_match t)
 
-    pub match_count : {t : Bool} → t ≡ matches e (before + 1) → from_bool t ≡ length (matched e latency (before + 1))
-    match_count {t} same = step t same
-      where
-        step : (t : Bool) → t ≡ matches e (before + 1) → from_bool t ≡ length (matched e latency (before + 1))
-        step true same = sym (one_long (sym same))
-        step false same = sym (none_long (sym same))
-
     -- the links of the instances after some are the next one's and those after it
     pub count_match : before < e.instances → length (matched_from e latency before) ≡ length (matched e latency (before + 1)) + length (matched_from e latency (before + 1))
     count_match h = ap length (matched_more h) ∙ length-append (matched e latency (before + 1)) (matched_from e latency (before + 1))
@@ -101,8 +89,19 @@ module _ (e : FlowEnds) (latency : ℕ) where
       pub links_end : e.instances ≤ before → written job_bytes out place (map L (matched_from e latency before)) ≡ out
       links_end h = sym (written_end jobs out place (map L (matched_from e latency before)) (ap (map L) (matched_end h)) refl)
 
--- what counting the links rests on
-pub ruleset links_counted = (matched_start, match_count, match_once, count_match, count_all)
+-- a flow has as many links as instances of its source match
+pub matches_counted : (e : FlowEnds) (latency : ℕ) → length (filter (λ before. matches e (before + 1)) (range_with_len 0 e.instances)) ≡ length (matched_links e latency)
+unfolding matched_links
+matches_counted e latency = go 0 e.instances
+  where
+    go : (a n : ℕ) → length (filter (λ before. matches e (before + 1)) (range_with_len a n)) ≡ length (flat (matched e latency) (count (a + 1) n))
+    go a zero = refl
+    go a (suc n) = step (matches e (a + 1)) refl (go (a + 1) n)
+      where
+        step : (t : Bool) → matches e (a + 1) ≡ t → length (filter (λ before. matches e (before + 1)) (range_with_len (a + 1) n)) ≡ length (flat (matched e latency) (count (a + 1 + 1) n))
+            → length (filter (λ before. matches e (before + 1)) (range_with_len a (suc n))) ≡ length (flat (matched e latency) (count (a + 1) (suc n)))
+        step true t rest = rw (t, one_match e latency a t) (ap suc rest)
+        step false t rest = rw (t, no_match e latency a t) rest
 
 -- what writing the links rests on
 pub ruleset links_written = (matched_start, count_match, count_all, links_more, links_end)

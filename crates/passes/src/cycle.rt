@@ -88,15 +88,10 @@ impl Plan {
     }
 
     // The number of the first job of the pass with a number: as many jobs stand before it as the passes of lower number have.
-    #[tactic(auto, using(crate::proofs::First::jobs_before))]
     pub(crate) fn first_job(&self, number: usize) -> usize
         requires { number ≤ 24 }
         ensures { result ≡ first_job self.now.cycle (in_order self.now.passes) number }
     {
-        let mut first = 0;
-        for lower in 0..number {
-            first += self.instances_of(lower);
-        }
-        first
+        (0..number).map(|lower| self.instances_of(lower)).sum()
     }
 }

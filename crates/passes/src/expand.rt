@@ -124,16 +124,13 @@ impl Ends {
     }
 
     // How many links the flow has.
-    #[tactic(auto, using(crate::proofs::Matches::links_counted))]
     fn count(&self) -> usize
         ensures upper_bound { result ≤ 48 }
         ensures by_index { (latency : ℕ) → result ≡ length (matched_links self.now latency) }
     {
-        let mut links = 0;
-        for before in 0..self.instances {
-            links += usize::from(self.is_matched(before));
-        }
-        links
+        (0..self.instances)
+            .filter(|before| self.is_matched(*before))
+            .count()
     }
 
     // The link of that instance at a place, if it has one: the next place.
