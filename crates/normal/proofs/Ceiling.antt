@@ -1,6 +1,6 @@
 -- The ceiling commutes with the rounds: the smaller of it and a sum, or of it and the larger of two numbers, depends on the two only through the smaller of it and each.
 -- So a square that is cut down to the ceiling after each round is the square of gaps, cut down to it. Stated over any ceiling above 0.
-use Prim.Native.Nat.{ℕ, zero, suc, ◌≤◌, ◌<◌, min, max}
+use Prim.Native.Nat.{ℕ, zero, suc, ◌<◌, min, max}
 use native.Mathlib.Nat.{min-zero}
 use native.Mathlib.Omega.{arith}
 use mathlib.Core.Path.{◌≡◌, refl, sym, ap, ap₂, ◌∙◌, fun_ext}
@@ -8,7 +8,7 @@ use mathlib.Core.List.{List, [], ◌∷◌, map}
 use lib.ListN.{length, get_or, get_or-map}
 use Rattle.laws.specs.Lists.{count}
 use Rattle.laws.proofs.Filling.{map_places}
-use Rattle.normal.specs.Gaps.{Square, cell, joined, widened, through_row, round, rounds}
+use Rattle.normal.specs.Gaps.{Square, joined, widened, through_row, round, rounds}
 use Rattle.normal.specs.Arrays.{capped, RowWithin, Within}
 use Rattle.normal.proofs.Closure.{joined_zero, joined_sum}
 use Rattle.normal.proofs.Squares.{length_widened, widened_cell}

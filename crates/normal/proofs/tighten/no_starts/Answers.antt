@@ -10,5 +10,5 @@ use Rattle.normal.proofs.tighten.no_starts.Goals as goal
 
 pub returns : goal.returns
 returns c table same =
-    any_below 48 (λ j. get_or c.args.jobs.present j false && is_late table c.args.square j) _ _ _ refl c.any.ensures.ran (λ x b q k. search (rules, tests))
+    any_below 48 (λ j. get_or c.args.jobs.present j false && is_late table c.args.square j) _ _ _ c.any.ensures.ran refl (λ x b q k. search (rules, tests))
     ∙ starts_marked c.args.jobs c.args.square table same
