@@ -1,4 +1,4 @@
--- Demand 1: "A refused call writes nothing to the output it was lent". A refused outcome holds no bytes, and openings at 10 and 11 alone, by the shape of the three definitions;
+-- "A refused call writes nothing to the output it was lent". A refused outcome holds no bytes, and openings at 10 and 11 alone, by the shape of the three definitions;
 -- so an answer that keeps the promise with a number from 1 on has no bytes written, and leaves the output as it found it. Assumes nothing.
 use Prim.Native.Nat.{ℕ, zero, suc, ◌<◌}
 use native.Mathlib.Omega.{arith}

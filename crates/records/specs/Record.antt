@@ -1,4 +1,4 @@
--- The five records of 01's table: what reading twelve bytes finds, and the twelve bytes of a record. `b k` is byte k of the record.
+-- The five 12-byte records: what reading twelve bytes finds, and the twelve bytes of a record. `b k` is byte k of the record.
 use Rattle.std.specs.Prelude.{ℕ, ◌≡◌, refl, ◌<◌, Bool, cond, ◌&&◌, List, ◌∷◌, ◌++◌, eqb, replicate, Option, None, Some}
 use Rattle.records.specs.Bytes.{word, pair, zeros, twelve, bytes_from}
 use Rattle.records.specs.declared.Pass.{Pass}

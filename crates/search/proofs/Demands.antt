@@ -1,4 +1,4 @@
--- Demand 2 on bytes, and what demand 3 says of scheduling. A call that 1 to 9 do not refuse searches the normal form, and comes out in one of three ways: the budget is spent, no starts
+-- What is said of a schedule and of its refusals, on bytes, and that a table and its normal form get the same. A call that 1 to 9 do not refuse searches the normal form, and comes out in one of three ways: the budget is spent, no starts
 -- are feasible, or the first sequence is given. Each number stands for one of the three, so it is given exactly when that way's facts hold. A normal form is searched as its own normal form.
 use Prim.Native.Nat.{ℕ, ◌*◌, ◌-◌, ◌<◌, ◌≤◌}
 use native.Mathlib.Omega.{arith}
