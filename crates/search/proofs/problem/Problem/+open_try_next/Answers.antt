@@ -17,6 +17,7 @@ pub try_next-open-requires : goal.try_next-open-requires
 try_next-open-requires t c =
     let ran = c.place.ensures.by_index c.args.self.now.jobs.now.cost c.requires.have_run (opens_cost _ _ _ _ _ _ _ _ _ _ (sym c.opens_at.ensures ∙ c.in-Some.is)) in
     (search rules, (search rules, (search rules, (search rules, ran))))
+
 pub try_next-returns-in-Nothing-clause-answers : goal.try_next-returns-in-Nothing-clause-answers
 try_next-returns-in-Nothing-clause-answers t c =
     let ends = sym c.opens_at.ensures ∙ c.in-Some.is in
