@@ -1,7 +1,6 @@
 -- The array of a table's passes, filled record by record: a pass in front is stored at its number, and a flow changes nothing.
 -- A loop that fills it in the table's order has it for the reversed table, which has the same passes where each pass number is given once.
 use Prim.Native.Nat.{ℕ, ◌<◌, ◌≤◌}
-use native.Mathlib.Omega.{arith}
 use mathlib.Core.Path.{◌≡◌, refl, sym, ap, ◌∙◌, fun_ext}
 use mathlib.Core.Bool.{Bool, true, false, cond, ◌||◌}
 use mathlib.Core.List.{List, [], ◌∷◌, map, reverse, reverse_aux}

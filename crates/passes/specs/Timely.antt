@@ -7,7 +7,7 @@ use Rattle.records.specs.Record.{pass}
 use Rattle.records.specs.declared.Pass.{Pass}
 use Rattle.passes.specs.declared.Passes.{Passes}
 
--- what a place holds as the list of the pass with the place's number, if there is one
+-- what a place holds as a list: the pass under the place's own number, if there is one
 abbrev pub listed : ℕ → Option Pass → List Pass
 listed n None = []
 listed n (Some p) = pass n p.cost p.period p.phase p.within ∷ []

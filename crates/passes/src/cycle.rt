@@ -32,18 +32,6 @@ fn common(cycle: u32, period: u16) -> Option<u32>
     multiple(cycle, wide)
 }
 
-// A cycle with the period of the pass with a number, if there is one, where it is at most 48,000.
-#[tactic(auto, using(crate::proofs::Ceiling::pass_joined))]
-fn joined(cycle: u32, passes: &Passes, number: usize) -> Option<u32>
-    requires { (0 < cycle) × (cycle ≤ 48000) × (number < 24) × AllTimely passes.now }
-    ensures { result ≡ within_limit (cycle_from cycle (passes_at passes.now number)) }
-{
-    let Some(pass) = passes.by_number[number] else {
-        return Some(cycle);
-    };
-    common(cycle, pass.period)
-}
-
 // The cycle of the passes, where it is at most 48,000.
 #[tactic(auto, using(crate::proofs::Ceiling::all_joined))]
 pub(crate) fn cycle_of(passes: &Passes) -> Option<u32>
@@ -51,8 +39,10 @@ pub(crate) fn cycle_of(passes: &Passes) -> Option<u32>
     ensures { result ≡ within_limit (cycle_from 1 (in_order passes.now)) }
 {
     let mut cycle = 1;
-    for number in 0..24 {
-        cycle = joined(cycle, passes, number)?;
+    for held in &passes.by_number {
+        if let Some(pass) = held {
+            cycle = common(cycle, pass.period)?;
+        }
     }
     Some(cycle)
 }
