@@ -4,36 +4,37 @@ use native.Mathlib.Omega.{arith}
 use mathlib.Core.Path.{◌≡◌, refl, sym, ap, ◌∙◌}
 use mathlib.Core.Bool.{Bool, true, false}
 use mathlib.Core.List.{List, ◌++◌, map}
+use Rattle.std.specs.Prelude.{Option, None, Some}
 use Rattle.std.specs.List.{sum, range_with_len}
 use Rattle.std.proofs.lemmas.List.Sums.{sum_by-cons}
 use lib.Dec.{ltb}
 use lib.ListN.{get_or}
 use borrow.Author.Tests.{lt-ltb, le-ltb, ltb-true, ltb-false}
-use Rattle.laws.specs.Lists.{count, only, flat}
+use Rattle.laws.specs.Lists.{count, flat}
 use Rattle.records.specs.declared.Pass.{Pass}
 use Rattle.passes.specs.declared.Passes.{Passes}
 use Rattle.passes.specs.Expand.{job_count, first_job}
-use Rattle.passes.specs.Timely.{pass_in, passes_at, in_order}
+use Rattle.passes.specs.Timely.{listed, passes_at, in_order}
 use Rattle.passes.proofs.Numbers.{passes_from, from_none, from_more, first_job_append, job_count_append}
 
 module _ (passes : Passes) (cycle : ℕ) where
   -- a pass of lower number counts with its instances
   lower_counts : (m n : ℕ) → m < n → first_job cycle (passes_at passes m) n ≡ job_count cycle (passes_at passes m)
-  unfolding first_job job_count passes_at pass_in
-  lower_counts m n h = go (get_or passes.present m false)
+  unfolding first_job job_count passes_at
+  lower_counts m n h = go (get_or passes.by_number m None)
     where
-      go : (t : Bool) → first_job cycle (only t (pass_in passes m)) n ≡ job_count cycle (only t (pass_in passes m))
-      go true = rw (lt-ltb m n h)
-      go false = refl
+      go : (held : Option Pass) → first_job cycle (listed m held) n ≡ job_count cycle (listed m held)
+      go (Some p) = rw (lt-ltb m n h)
+      go None = refl
 
   -- a pass of no lower number does not count
   higher_not : (m n : ℕ) → n ≤ m → first_job cycle (passes_at passes m) n ≡ 0
-  unfolding first_job passes_at pass_in
-  higher_not m n h = go (get_or passes.present m false)
+  unfolding first_job passes_at
+  higher_not m n h = go (get_or passes.by_number m None)
     where
-      go : (t : Bool) → first_job cycle (only t (pass_in passes m)) n ≡ 0
-      go true = rw (le-ltb m n h)
-      go false = refl
+      go : (held : Option Pass) → first_job cycle (listed m held) n ≡ 0
+      go (Some p) = rw (le-ltb m n h)
+      go None = refl
 
   -- so those from a number below it on are its instances and those from the next number on
   pub first_more : (m n : ℕ) → m < 24 → m < n → first_job cycle (passes_from passes m) n ≡ job_count cycle (passes_at passes m) + first_job cycle (passes_from passes (m + 1)) n

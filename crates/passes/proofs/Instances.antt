@@ -3,10 +3,10 @@ use Prim.Native.Nat.{ℕ, ◌+◌, ◌-◌, ◌*◌, ◌<◌, ◌≤◌}
 use native.Mathlib.Nat.{suc-mul, div-mul-le_self}
 use native.Mathlib.Omega.{arith}
 use mathlib.Core.Path.{◌≡◌, refl, sym, ap, ◌∙◌}
-use mathlib.Core.Bool.{true, false}
 use mathlib.Core.List.{List, [], ◌∷◌, ◌++◌, map, append-nil, map-append}
 use lib.ListN.{length, get_or, length-map, length-append}
 use lib.Seq.{paste}
+use Rattle.std.specs.Prelude.{None, Some}
 use Rattle.laws.specs.Lists.{count}
 use Rattle.laws.proofs.Rows.{length_row}
 use Rattle.records.specs.Record.{job_bytes}
@@ -19,7 +19,7 @@ use Rattle.records.proofs.Codec.{jobs}
 use Rattle.records.proofs.Writing.{written, written_none, written_one, written_append, written_first, written_more, written_end}
 use Rattle.passes.specs.declared.Passes.{Passes}
 use Rattle.passes.specs.Expand.{instances, instance_of, jobs_from, job_count}
-use Rattle.passes.specs.Timely.{pass_in, passes_at, in_order}
+use Rattle.passes.specs.Timely.{passes_at, in_order}
 use Rattle.passes.proofs.Ceiling.{at_absent, at_present, timely, instances_absent}
 use Rattle.passes.proofs.Numbers.{passes_from, from_none, from_more, from_end, job_count_more, jobs_append, count_next, count_none}
 
@@ -49,29 +49,29 @@ pub ruleset instances_written = (instances_more, instances_end)
 
 module _ (passes : Passes) (n cycle first : ℕ) where
   -- where there is no pass, no job is written
-  pub no_jobs : get_or passes.present n false ≡ false → (out : List ℕ) → out ≡ written job_bytes out first (map J (jobs_from cycle first (passes_at passes n)))
+  pub no_jobs : get_or passes.by_number n None ≡ None → (out : List ℕ) → out ≡ written job_bytes out first (map J (jobs_from cycle first (passes_at passes n)))
   unfolding jobs_from
   no_jobs e out = rw (at_absent passes n e) (written_none jobs out first)
 
-  module _ (e : get_or passes.present n false ≡ true) {times : ℕ} (here : times ≡ job_count cycle (passes_at passes n)) where
+  module _ {p : Pass} (e : get_or passes.by_number n None ≡ Some p) {times : ℕ} (here : times ≡ job_count cycle (passes_at passes n)) where
     -- where there is one, its instances are as many as its period goes into the cycle
-    times_of : times ≡ instances cycle (pass_in passes n)
-    unfolding job_count
-    times_of = let one = ap (job_count cycle) (at_present passes n e) in omega arith
+    times_of : times ≡ instances cycle p
+    unfolding job_count instances
+    times_of = omega (arith, ap (job_count cycle) (at_present passes n e))
 
     -- their periods are within the cycle
-    pub times_span : times * (pass_in passes n).period ≤ cycle
+    pub times_span : times * p.period ≤ cycle
     unfolding instances
-    times_span = rw times_of (div-mul-le_self cycle (pass_in passes n).period)
+    times_span = rw times_of (div-mul-le_self cycle p.period)
 
     -- and they are its jobs
-    pub pass_jobs : (out : List ℕ) {after : List ℕ} → after ≡ written job_bytes out first (map J (map (instance_of (pass_in passes n) first) (count 1 times)))
+    pub pass_jobs : (out : List ℕ) {after : List ℕ} → after ≡ written job_bytes out first (map J (map (instance_of p first) (count 1 times)))
         → after ≡ written job_bytes out first (map J (jobs_from cycle first (passes_at passes n)))
-    unfolding jobs_from
+    unfolding jobs_from instances instance_of
     pass_jobs out wrote = wrote ∙ ap (λ rs. written job_bytes out first rs) same
       where
-        same : map J (map (instance_of (pass_in passes n) first) (count 1 times)) ≡ map J (jobs_from cycle first (passes_at passes n))
-        same = rw (at_present passes n e, times_of, append-nil (map (instance_of (pass_in passes n) first) (count 1 (instances cycle (pass_in passes n)))))
+        same : map J (map (instance_of p first) (count 1 times)) ≡ map J (jobs_from cycle first (passes_at passes n))
+        same = rw (at_present passes n e, times_of, append-nil (map (instance_of p first) (count 1 (instances cycle p))))
 
 -- what writing a pass's jobs rests on
 pub ruleset pass_written = (instances_absent, no_jobs, times_span, pass_jobs, timely)

@@ -1,25 +1,24 @@
--- A table's passes as the code holds them: arrays by pass number.
-use Rattle.std.specs.Prelude.{ℕ, ◌*◌, ◌≡◌, List, map, length}
+-- A table's passes as the code holds them: by pass number.
+use Rattle.std.specs.Prelude.{ℕ, ◌*◌, ◌≡◌, cond, List, map, length, Option, None, Some}
 use Rattle.std.proofs.Math.Seq.{paste}
 use Rattle.laws.specs.Lists.{any, count}
 use Rattle.records.specs.Record.{job_bytes}
 use Rattle.records.specs.Table.{encode}
+use Rattle.records.specs.declared.Pass.{Pass}
 use Rattle.records.specs.declared.PassRecord.{PassRecord}
 use Rattle.records.specs.declared.JobRecord.{JobRecord}
 use Rattle.passes.specs.Judge.{is_pass}
-use Rattle.passes.specs.Expand.{of_pass, cycle_of}
+use Rattle.passes.specs.Expand.{pass_at, cycle_of}
 use Rattle.passes.specs.Call.{pass_table, passes_number}
 use Rattle.passes.specs.declared.Passes.{Passes}
 
--- the passes by number: 0 where there is none
+-- the pass with a number, if the table has one
+abbrev pub pass_of : List PassRecord → ℕ → Option Pass
+pass_of table n = cond (any (is_pass n) table) (Some (pass_at table n)) None
+
+-- the passes by number
 unfoldable pub passes_of : List PassRecord → Passes
-passes_of table = record {
-  present = map (λ n. any (is_pass n) table) (count 0 24);
-  cost = map (of_pass (λ p. p.cost) table) (count 0 24);
-  period = map (of_pass (λ p. p.period) table) (count 0 24);
-  phase = map (of_pass (λ p. p.phase) table) (count 0 24);
-  within = map (of_pass (λ p. p.within) table) (count 0 24);
-}
+passes_of table = record { by_number = map (pass_of table) (count 0 24) }
 
 -- passes and a cycle are those of a table that none of 1 to 6 refuses
 pub record Accepted (bytes : List ℕ) (held : Passes) (ticks : ℕ) : Type 0 where

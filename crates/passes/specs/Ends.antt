@@ -1,5 +1,5 @@
 -- The links of a flow as the code finds them: an instance of the source has one exactly when its period starts with a period of the target.
-use Rattle.std.specs.Prelude.{ℕ, ◌+◌, ◌-◌, ◌*◌, ◌/◌, ◌%◌, ◌<◌, ◌≤◌, Bool, List, [], eqb, get_or}
+use Rattle.std.specs.Prelude.{ℕ, ◌+◌, ◌-◌, ◌*◌, ◌/◌, ◌%◌, ◌<◌, ◌≤◌, Bool, List, [], eqb}
 use Rattle.laws.specs.Lists.{count, only, flat}
 use Rattle.records.specs.Record.{link}
 use Rattle.records.specs.declared.Flow.{Flow}
@@ -7,7 +7,7 @@ use Rattle.records.specs.declared.Link.{Link}
 use Rattle.records.specs.declared.PassRecord.{PassRecord}
 use Rattle.records.specs.declared.PassRecord.TheVariants.{P, F}
 use Rattle.passes.specs.Expand.{job_count, first_job}
-use Rattle.passes.specs.Timely.{passes_at, in_order}
+use Rattle.passes.specs.Timely.{passes_at, period_at, in_order}
 use Rattle.passes.specs.declared.Passes.{Passes}
 
 -- what the links of a flow are made of: its source's and its target's first job and period, and how many instances the source has
@@ -23,8 +23,8 @@ unfoldable pub ends_of : Passes → ℕ → Flow → FlowEnds
 ends_of passes cycle f = record {
   from = first_job cycle (in_order passes) f.source;
   to = first_job cycle (in_order passes) f.target;
-  source_period = get_or passes.period f.source 0;
-  target_period = get_or passes.period f.target 0;
+  source_period = period_at passes f.source;
+  target_period = period_at passes f.target;
   instances = job_count cycle (passes_at passes f.source);
 }
 

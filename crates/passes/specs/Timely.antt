@@ -1,20 +1,29 @@
--- The passes that arrays hold by number, and what is known of them once judged: each has a period, which its window lies within.
+-- The passes that an array holds by number, and what is known of them once judged: each has a period, which its window lies within.
 -- No type that keeps that fact is named here, so that such a type can cite it.
-use Rattle.std.specs.Prelude.{ℕ, ◌+◌, ◌<◌, ◌≤◌, false, List, [], ◌∷◌, get_or}
+use Rattle.std.specs.Prelude.{ℕ, ◌+◌, ◌<◌, ◌≤◌, List, [], ◌∷◌, get_or, Option, None, Some}
 use Rattle.std.specs.Coded.{×_prop, Unit-prop, le_prop}
-use Rattle.laws.specs.Lists.{count, only, flat, Every}
+use Rattle.laws.specs.Lists.{count, flat, Every}
 use Rattle.records.specs.Record.{pass}
 use Rattle.records.specs.declared.Pass.{Pass}
 use Rattle.passes.specs.declared.Passes.{Passes}
 
--- the pass with a number
-unfoldable pub pass_in : Passes → ℕ → Pass
-pass_in passes n =
-    pass n (get_or passes.cost n 0) (get_or passes.period n 0) (get_or passes.phase n 0) (get_or passes.within n 0)
+-- what a place holds as a list: the pass under the place's own number, if there is one
+abbrev pub listed : ℕ → Option Pass → List Pass
+listed n None = []
+listed n (Some p) = pass n p.cost p.period p.phase p.within ∷ []
 
 -- the pass with a number, if there is one
 unfoldable pub passes_at : Passes → ℕ → List Pass
-passes_at passes n = only (get_or passes.present n false) (pass_in passes n)
+passes_at passes n = listed n (get_or passes.by_number n None)
+
+-- the period that a place holds, and 0 where it holds no pass
+abbrev pub period_held : Option Pass → ℕ
+period_held None = 0
+period_held (Some p) = p.period
+
+-- the period of the pass with a number, and 0 where there is none
+unfoldable pub period_at : Passes → ℕ → ℕ
+period_at passes n = period_held (get_or passes.by_number n None)
 
 -- the passes by rising number
 unfoldable pub in_order : Passes → List Pass

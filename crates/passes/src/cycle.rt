@@ -1,7 +1,7 @@
 // The cycle of the passes, the least common multiple of their periods, and how many instances and jobs they have in it.
 ghost use Rattle.std.specs.Prelude.{◌≡◌, ◌<◌, ◌≤◌};
 ghost use Rattle.passes.specs.Expand.{lcm, cycle_from, within_limit, job_count, first_job};
-ghost use Rattle.passes.specs.Timely.{passes_at, in_order, AllTimely, all_timely_once};
+ghost use Rattle.passes.specs.Timely.{passes_at, period_at, in_order, AllTimely, all_timely_once};
 
 use crate::Passes;
 
@@ -32,18 +32,6 @@ fn common(cycle: u32, period: u16) -> Option<u32>
     multiple(cycle, wide)
 }
 
-// A cycle with the period of the pass with a number, if there is one, where it is at most 48,000.
-#[tactic(auto, using(crate::proofs::Ceiling::pass_joined))]
-fn joined(cycle: u32, passes: &Passes, number: usize) -> Option<u32>
-    requires { (0 < cycle) × (cycle ≤ 48000) × (number < 24) × AllTimely passes.now }
-    ensures { result ≡ within_limit (cycle_from cycle (passes_at passes.now number)) }
-{
-    if !passes.present[number] {
-        return Some(cycle);
-    }
-    common(cycle, passes.period[number])
-}
-
 // The cycle of the passes, where it is at most 48,000.
 #[tactic(auto, using(crate::proofs::Ceiling::all_joined))]
 pub(crate) fn cycle_of(passes: &Passes) -> Option<u32>
@@ -51,8 +39,10 @@ pub(crate) fn cycle_of(passes: &Passes) -> Option<u32>
     ensures { result ≡ within_limit (cycle_from 1 (in_order passes.now)) }
 {
     let mut cycle = 1;
-    for number in 0..24 {
-        cycle = joined(cycle, passes, number)?;
+    for held in &passes.by_number {
+        if let Some(pass) = held {
+            cycle = common(cycle, pass.period)?;
+        }
     }
     Some(cycle)
 }
@@ -73,10 +63,19 @@ impl Plan {
         requires { number < 24 }
         ensures { (result ≡ job_count self.now.cycle (passes_at self.now.passes number)) × (result ≤ 48000) }
     {
-        if !self.passes.present[number] {
+        let Some(pass) = self.passes.by_number[number] else {
             return 0;
-        }
-        (self.cycle / u32::from(self.passes.period[number])) as usize
+        };
+        (self.cycle / u32::from(pass.period)) as usize
+    }
+
+    // The period of the pass with a number: 0 where there is no such pass.
+    #[tactic(auto, unfolding(crate::specs::Timely::period_at))]
+    pub(crate) fn period_of(&self, number: usize) -> usize
+        requires { number < 24 }
+        ensures { result ≡ period_at self.now.passes number }
+    {
+        self.passes.by_number[number].map_or(0, |pass| usize::from(pass.period))
     }
 
     // How many jobs the passes have: as many as stand before the number 24.

@@ -7,31 +7,15 @@ ghost use Rattle.records.specs.Outcome.{overwrite};
 ghost use Rattle.records.specs.declared.JobRecord.TheVariants.{J, L};
 ghost use Rattle.passes.specs.Expand.{instance_of, jobs_from, job_count, flow_links, flows_of};
 ghost use Rattle.passes.specs.Call.{pass_table};
-ghost use Rattle.passes.specs.Timely.{pass_in, passes_at, in_order};
+ghost use Rattle.passes.specs.Timely.{passes_at, in_order};
 ghost use Rattle.passes.specs.Arrays.{written_at};
 ghost use Rattle.passes.specs.Ends.{ends_of, matches, matched, matched_links, record_links, EndsFit, FlowFits};
 
-use crate::Passes;
 use crate::cycle::Plan;
 use crate::judge::Accepted;
 use records::write::write;
 use records::{Flow, Job, JobRecord, Link, Pass, PassRecord};
 use std::marker::Model;
-
-// The pass with a number.
-#[tactic(auto, unfolding(crate::specs::Timely::pass_in))]
-fn pass_of(passes: &Passes, number: usize) -> Pass
-    requires { number < 24 }
-    ensures { result ≡ pass_in passes.now number }
-{
-    Pass {
-        number: number as u8,
-        cost: passes.cost[number],
-        period: passes.period[number],
-        phase: passes.phase[number],
-        within: passes.within[number],
-    }
-}
 
 // The job of a pass's instance that `before` others come before; the job of the first one is numbered `first`.
 #[tactic(auto, unfolding(crate::specs::Expand::instance_of))]
@@ -71,11 +55,11 @@ fn write_pass(out: &mut [u8], first: usize, plan: &Plan, number: usize) -> usize
     ensures value { result ≡ first + job_count plan.now.cycle (passes_at plan.now.passes number) }
     ensures out_after { out.new ≡ written_at out.old first (map J (jobs_from plan.now.cycle first (passes_at plan.now.passes number))) }
 {
-    if !plan.passes.present[number] {
+    let Some(pass) = plan.passes.by_number[number] else {
         return first;
-    }
+    };
     let times = plan.instances_of(number);
-    write_instances(out, first, pass_of(&plan.passes, number), times);
+    write_instances(out, first, pass, times);
     first + times
 }
 
@@ -179,8 +163,8 @@ fn ends_of(plan: &Plan, flow: Flow) -> Ends
     Ends {
         from: plan.first_job(source),
         to: plan.first_job(target),
-        source_period: usize::from(plan.passes.period[source]),
-        target_period: usize::from(plan.passes.period[target]),
+        source_period: plan.period_of(source),
+        target_period: plan.period_of(target),
         instances: plan.instances_of(source),
     }
 }
