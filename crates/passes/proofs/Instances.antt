@@ -104,7 +104,9 @@ module _ (passes : Passes) (n cycle first : ℕ) (out : List ℕ) where
       many = length_jobs cycle first (passes_at passes n)
 
       parts : map J (jobs_from cycle first (passes_from passes n)) ≡ own ++ later
-      parts = ap (λ ps. map J (jobs_from cycle first ps)) (from_more passes n h) ∙ ap (map J) (jobs_append cycle first (passes_at passes n) (passes_from passes (n + 1))) ∙ map-append J (jobs_from cycle first (passes_at passes n)) (jobs_from cycle (first + job_count cycle (passes_at passes n)) (passes_from passes (n + 1)))
+      parts = ap (λ ps. map J (jobs_from cycle first ps)) (from_more passes n h)
+          ∙ ap (map J) (jobs_append cycle first (passes_at passes n) (passes_from passes (n + 1)))
+          ∙ map-append J (jobs_from cycle first (passes_at passes n)) (jobs_from cycle (first + job_count cycle (passes_at passes n)) (passes_from passes (n + 1)))
 
   -- from 24 on nothing is written
   pub jobs_end : 24 ≤ n → written job_bytes out first (map J (jobs_from cycle first (passes_from passes n))) ≡ out

@@ -42,6 +42,7 @@ every_once : (ps : List Pass) → IsProp (Every Timely ps)
 every_once [] = Unit-prop
 every_once (p ∷ ps) = ×_prop (×_prop le_prop le_prop) (every_once ps)
 
+-- that all passes are timely holds in one way only
 pub all_timely_once : (passes : Passes) → IsProp (AllTimely passes)
 unfolding AllTimely
 all_timely_once passes = every_once (in_order passes)

@@ -11,5 +11,7 @@ use Rattle.passes.proofs.expand.count_links.Given as goal
 
 abbrev pub invariant-loop-place : goal.invariant-loop-place
 invariant-loop-place l =
+    let plan = l.accepted.plan in
+    let table = pass_table l.accepted.judged.table.bytes.now in
     (l.links ≤ 48 * l.place)
-    × (length (flat (flow_links (pass_table l.accepted.judged.table.bytes.now) l.accepted.plan.cycle) (flows_of (pass_table l.accepted.judged.table.bytes.now))) ≡ l.links + length (flat (record_links l.accepted.plan.passes l.accepted.plan.cycle) (drop l.place (pass_table l.accepted.judged.table.bytes.now))))
+    × (length (flat (flow_links table plan.cycle) (flows_of table)) ≡ l.links + length (flat (record_links plan.passes plan.cycle) (drop l.place table)))

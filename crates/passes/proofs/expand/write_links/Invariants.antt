@@ -17,6 +17,10 @@ use Rattle.passes.proofs.expand.write_links.Given as goal
 
 abbrev pub invariant-loop-place : goal.invariant-loop-place
 invariant-loop-place l =
+    let plan = l.accepted.plan in
+    let table = pass_table l.accepted.judged.table.bytes.now in
+    let all = flat (flow_links table plan.cycle) (flows_of table) in
+    let left = flat (record_links plan.passes plan.cycle) (drop l.place table) in
     (length l.out ≡ length l.initial.out)
-    × (length (flat (flow_links (pass_table l.accepted.judged.table.bytes.now) l.accepted.plan.cycle) (flows_of (pass_table l.accepted.judged.table.bytes.now))) ≡ l.next + length (flat (record_links l.accepted.plan.passes l.accepted.plan.cycle) (drop l.place (pass_table l.accepted.judged.table.bytes.now))))
-    × (written job_bytes l.out l.next (map L (flat (record_links l.accepted.plan.passes l.accepted.plan.cycle) (drop l.place (pass_table l.accepted.judged.table.bytes.now)))) ≡ overwrite (encode job_bytes (map L (flat (flow_links (pass_table l.accepted.judged.table.bytes.now) l.accepted.plan.cycle) (flows_of (pass_table l.accepted.judged.table.bytes.now))))) l.initial.out)
+    × (length all ≡ l.next + length left)
+    × (written job_bytes l.out l.next (map L left) ≡ overwrite (encode job_bytes (map L all)) l.initial.out)
