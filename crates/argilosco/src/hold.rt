@@ -1,9 +1,5 @@
 // What normalising and scheduling have in common: a job table's jobs and gaps, where nothing up to its start times is refused.
-ghost use Rattle.std.specs.Prelude.{ℕ, ◌≡◌, MatchResult};
-ghost use Rattle.records.specs.Outcome.{number_of};
-ghost use Rattle.jobs.specs.Call.{job_table, jobs_number};
-ghost use Rattle.normal.specs.Call.{starts_number};
-ghost use Rattle.normal.specs.Arrays.{Holds};
+ghost use Rattle.argilosco.specs.Answer.{HeldAs};
 
 use jobs::Jobs;
 use jobs::load::{load_jobs, load_links};
@@ -15,7 +11,7 @@ use tables::judge::{Judged, judge};
 
 // The jobs of a table that permits start times, with the gaps between them put into a square, or the first refusal that holds.
 pub(crate) fn hold(bytes: &[u8], square: &mut [[u32; 48]; 48]) -> Result<Jobs, Refusal>
-    ensures { MatchResult result (λ jobs. Holds (job_table bytes.now) jobs square.new × ((later : ℕ) → jobs_number bytes.now (starts_number (job_table bytes.now) later) ≡ later)) (λ refusal. (later : ℕ) → jobs_number bytes.now (starts_number (job_table bytes.now) later) ≡ number_of refusal) }
+    ensures { HeldAs bytes.now result square.new }
 {
     let judged: Judged<JobRecord> = judge(bytes)?;
     let jobs = load_jobs(&judged);
