@@ -1,6 +1,6 @@
 /* Argilosco: passes expanded into jobs, job tables normalised and scheduled on one core.
  *
- * Every table is a run of 12-byte records, as document 01 lays them. A table and an output are a
+ * Every table is a run of 12-byte records, as docs/FORMAT.md lays them. A table and an output are a
  * pointer, never null even where the length is 0, and a length in bytes. The table and the output of
  * a call may not overlap. A refused call leaves the output as it was; a call that is done writes the
  * first `written` bytes of it and no other.

@@ -1,4 +1,4 @@
-/* Expands document 01's example from C and holds every byte to what 01 says, written here by hand. */
+/* Expands the example of README.md from C and holds every byte to what it must be, written here by hand. */
 
 #include "argilosco.h"
 
@@ -42,6 +42,6 @@ int main(void)
         printf("C: number %u, %u bytes\n", (unsigned)answer.number, (unsigned)answer.written);
         return 1;
     }
-    printf("C: the example expands as 01 says\n");
+    printf("C: the example expands as it must\n");
     return 0;
 }

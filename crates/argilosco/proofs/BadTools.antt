@@ -1,4 +1,4 @@
--- 01's four bad tools break a promise, each at a named case: the promise at that case computes to something they do not do. Assumes nothing.
+-- Four bad tools break a promise, each at a named case: the promise at that case computes to something they do not do. Assumes nothing.
 use Prim.Native.Nat.{ℕ}
 use mathlib.Core.Path.{◌≡◌, sym, ◌∙◌, ap}
 use mathlib.Core.List.{List, [], ◌∷◌}

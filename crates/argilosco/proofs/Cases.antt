@@ -1,4 +1,4 @@
--- The definitions give document 01's own cases, by computation. Assumes nothing.
+-- The definitions give the hand-worked cases, by computation. Assumes nothing.
 use mathlib.Core.Path.{◌≡◌, refl}
 use mathlib.Core.Bool.{true}
 use Rattle.cases.specs.Case.{all_pass}

@@ -11,55 +11,44 @@ use Rattle.laws.specs.Lists.{flat}
 use Rattle.laws.proofs.Adjoining.{flat_append}
 use Rattle.records.specs.Record.{job_bytes}
 use Rattle.records.specs.Table.{encode}
-use Rattle.records.specs.Outcome.{Outcome, refuse, refused, overwrite}
+use Rattle.records.specs.Outcome.{refuse, refused, done, overwrite}
 use Rattle.records.specs.declared.JobRecord.TheVariants.{J, L}
 use Rattle.records.proofs.Codec.{jobs}
 use Rattle.records.proofs.Tables.{length_encode}
 use Rattle.records.proofs.Writing.{overwrite_rest}
 use Rattle.passes.specs.Expand.{passes_in_order, flows_of, cycle_of, jobs_from, job_count, flow_links, expanded}
 use Rattle.passes.specs.Call.{pass_table, passes_number, expanded_bytes, expand_number, expand}
-use Rattle.passes.specs.Arrays.{in_order, JudgedAs, Accepted}
+use Rattle.passes.specs.Timely.{in_order}
+use Rattle.passes.specs.Arrays.{Accepted}
 use Rattle.passes.specs.declared.Passes.{Passes}
-use Rattle.passes.specs.declared.Judged.{Judged}
 use Rattle.passes.proofs.Judging.{number_later, number_refused}
 use Rattle.passes.proofs.Instances.{length_jobs}
 use Rattle.passes.proofs.Size.{expanded_size}
 use Rattle.passes.proofs.Accepted.{passes_order}
-use Rattle.argilosco.specs.Promise.{Keeps}
 
--- an answer that refuses leaves the output as it was
-keeps_refused : {outcome : Outcome} {before : List ℕ} {n : ℕ} → outcome ≡ refused n 0 → Keeps outcome before (record { number = n; written = 0 }) before
-keeps_refused e = rw e (record { number = refl; written = refl; output = refl })
-
-module _ (bytes before : List ℕ) where
+module _ (bytes : List ℕ) (room : ℕ) where
   -- 1 to 6: the lowest that holds
-  pub refused_right : (n : ℕ) → (n ≡ 0 → ⊥) → n ≡ passes_number bytes 0 → Keeps (expand bytes (length before)) before (record { number = n; written = 0 }) before
+  pub refused_right : (n : ℕ) → (n ≡ 0 → ⊥) → passes_number bytes 0 ≡ n → expand bytes room ≡ refused n 0
   unfolding expand expand_number
   refused_right zero some e = absurd (some refl)
-  refused_right (suc n) some e = keeps_refused (rw (number_refused bytes n (sym e) (refuse 9 (ltb (length before) (length (expanded_bytes bytes))) 0)))
+  refused_right (suc n) some e = rw (number_refused bytes n e (refuse 9 (ltb room (length (expanded_bytes bytes))) 0))
 
   module _ (ok : passes_number bytes 0 ≡ 0) where
     -- 9: "output too short", judged on the exact length
-    pub short_right : length before < length (expanded_bytes bytes) → Keeps (expand bytes (length before)) before (record { number = 9; written = 0 }) before
+    pub short_right : room < length (expanded_bytes bytes) → expand bytes room ≡ refused 9 0
     unfolding expand expand_number
-    short_right h = keeps_refused (rw (number_later bytes ok (refuse 9 (ltb (length before) (length (expanded_bytes bytes))) 0), lt-ltb (length before) (length (expanded_bytes bytes)) h))
+    short_right h = rw (number_later bytes ok (refuse 9 (ltb room (length (expanded_bytes bytes))) 0), lt-ltb room (length (expanded_bytes bytes)) h)
 
-    -- 0: the records' bytes, and the rest unchanged
-    pub done_right : length (expanded_bytes bytes) ≤ length before → {written : ℕ} {after : List ℕ} → written ≡ length (expanded_bytes bytes) → after ≡ overwrite (expanded_bytes bytes) before
-        → Keeps (expand bytes (length before)) before (record { number = 0; written = written }) after
+    -- 0: the records' bytes
+    pub done_right : length (expanded_bytes bytes) ≤ room → expand bytes room ≡ done 0 (expanded_bytes bytes)
     unfolding expand expand_number
-    done_right h size left =
-        rw (number_later bytes ok (refuse 9 (ltb (length before) (length (expanded_bytes bytes))) 0), le-ltb (length before) (length (expanded_bytes bytes)) h)
-        (record { number = refl; written = size; output = left })
-
--- a table that is given 0 is accepted, with the passes, the cycle and the jobs of the answer
-pub judged_accepted : {bytes : List ℕ} {answer : Judged} → JudgedAs bytes answer → answer.number ≡ 0 → Accepted bytes answer.passes answer.cycle
-judged_accepted j e = record { number = sym j.number ∙ e; passes = j.passes e; cycle = j.cycle e }
-
-pub judged_jobs : {bytes : List ℕ} {answer : Judged} → JudgedAs bytes answer → answer.number ≡ 0 → answer.jobs ≡ job_count answer.cycle (in_order answer.passes)
-judged_jobs {bytes} j e = j.jobs e ∙ sym (rw (passes_order bytes (judged_accepted j e), j.cycle e))
+    done_right h = rw (number_later bytes ok (refuse 9 (ltb room (length (expanded_bytes bytes))) 0), le-ltb room (length (expanded_bytes bytes)) h)
 
 module _ (bytes : List ℕ) {passes : Passes} {cycle : ℕ} (ok : Accepted bytes passes cycle) where
+  -- the jobs counted are those of the passes handed on
+  pub jobs_counted : {jobs : ℕ} → jobs ≡ job_count (cycle_of (pass_table bytes)) (passes_in_order (pass_table bytes)) → jobs ≡ job_count cycle (in_order passes)
+  jobs_counted counted = counted ∙ sym (rw (passes_order bytes ok, ok.cycle))
+
   -- the bytes of its jobs, and those of its links
   abbrev pub job_part : List ℕ
   job_part = encode job_bytes (map J (jobs_from cycle 0 (in_order passes)))

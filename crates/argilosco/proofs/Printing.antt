@@ -1,4 +1,4 @@
--- The print program's lines, by computation: 01's own example, and a refusal with openings. Assumes nothing.
+-- The print program's lines, by computation: the example, and a refusal with openings. Assumes nothing.
 use mathlib.Core.Path.{◌≡◌, refl}
 use mathlib.Core.List.{[], ◌∷◌}
 use Rattle.cases.specs.Case.{jobs}

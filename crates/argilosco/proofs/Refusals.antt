@@ -1,10 +1,10 @@
--- Demand 1: "A refused call writes nothing to the output it was lent". A refused outcome holds no bytes, and openings at 10 and 11 alone, by the shape of the three definitions;
+-- "A refused call writes nothing to the output it was lent". A refused outcome holds no bytes, and openings at 10 and 11 alone, by the shape of the three definitions;
 -- so an answer that keeps the promise with a number from 1 on has no bytes written, and leaves the output as it found it. Assumes nothing.
 use Prim.Native.Nat.{ℕ, zero, suc, ◌<◌}
 use native.Mathlib.Omega.{arith}
 use mathlib.Core.Bool.{Bool, true, false}
 use mathlib.Core.Path.{◌≡◌, refl, ap, ◌∙◌}
-use mathlib.Core.Option.{Option, none, some}
+use Rattle.std.specs.Prelude.{Option, None, Some}
 use mathlib.Core.List.{List, []}
 use lib.Dec.{ltb}
 use lib.ListN.{length}
@@ -41,8 +41,8 @@ searched_withheld table budget = step (ltb budget (openings table)) (schedule ta
   where
     step : (t : Bool) (o : Option (List ℕ)) → Withheld (elim t [ true ↦ refused 11 budget | false ↦ decided table o (openings table) ])
     step true o = record { bytes = λ h. refl; openings = λ h k. absurd (omega arith) }
-    step false none = record { bytes = λ h. refl; openings = λ h k. absurd (omega arith) }
-    step false (some q) = done_withheld _ _
+    step false None = record { bytes = λ h. refl; openings = λ h k. absurd (omega arith) }
+    step false (Some q) = done_withheld _ _
 
 -- what expanding withholds when it is refused
 pub expand_withheld : (bytes : List ℕ) (room : ℕ) → Withheld (expand bytes room)

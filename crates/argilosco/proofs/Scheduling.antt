@@ -2,77 +2,53 @@
 -- The search is handed the normal form's own jobs and links, and it writes a slot for every job or nothing.
 use Prim.Native.Nat.{ℕ, zero, suc, ◌*◌, ◌<◌, ◌≤◌}
 use mathlib.Core.Path.{◌≡◌, refl, sym, ap, ◌∙◌}
-use mathlib.Core.Bool.{true, false}
 use mathlib.Core.List.{List, map}
 use native.Mathlib.Omega.{arith}
 use lib.ListN.{length}
 use borrow.Author.Tests.{lt-ltb, le-ltb}
 use Rattle.laws.specs.Lists.{count}
 use Rattle.laws.proofs.Members.{map_same}
-use Rattle.records.specs.Outcome.{Outcome, refuse}
+use Rattle.records.specs.Outcome.{Outcome, refuse, refused}
 use Rattle.records.specs.declared.JobRecord.{JobRecord}
 use Rattle.jobs.specs.declared.Jobs.{Jobs}
 use Rattle.jobs.specs.Jobs.{numbers, strongest}
-use Rattle.jobs.specs.Call.{job_table, jobs_number}
+use Rattle.jobs.specs.Call.{job_table}
 use Rattle.jobs.specs.Arrays.{jobs_of}
 use Rattle.jobs.proofs.WellFormed.{WellFormed}
 use Rattle.normal.specs.declared.Windows.{Windows}
-use Rattle.normal.specs.Gaps.{Square, cell, gaps, ring_in}
-use Rattle.normal.specs.Windows.{no_starts, windows}
+use Rattle.normal.specs.Gaps.{Square, cell}
+use Rattle.normal.specs.Windows.{windows}
 use Rattle.normal.specs.Normal.{normal_form}
-use Rattle.normal.specs.Arrays.{ceiling, capped, Holds}
+use Rattle.normal.specs.Arrays.{Holds}
 use Rattle.normal.specs.Chosen.{present_in, chosen}
 use Rattle.normal.proofs.NormalSound.{normal_numbers}
 use Rattle.normal.proofs.Held.{normalisable}
 use Rattle.normal.proofs.FormHeld.{below_48}
 use Rattle.normal.proofs.FormGiven.{links_given}
-use Rattle.normal.proofs.Answers.{jobs_refused, ring_number, starts_number_lem, held_number}
-use Rattle.search.specs.declared.Found.{Found}
-use Rattle.search.specs.State.{links_into, Answers}
+use Rattle.normal.proofs.Answers.{held_number}
+use Rattle.search.specs.State.{links_into}
 use Rattle.search.specs.Call.{searched, schedule_number, scheduled}
 use Rattle.search.proofs.ByNumber.{numbers_in}
 use Rattle.search.proofs.Given.{first_length}
 use Rattle.search.proofs.Demands.{Comes, spent, nothing, given, searched_comes}
-use Rattle.argilosco.specs.Promise.{SchedulePromise}
-use Rattle.argilosco.specs.declared.Scheduled.{Scheduled}
 
-module _ (bytes : List ℕ) (budget : ℕ) (before : List ℕ) where
-  -- a call refused before any search gives the number, writes no bytes, has no openings and leaves the output as it was
-  pub schedule_refused : (number : ℕ) → (number ≡ 0 → ⊥) → schedule_number bytes (length before) ≡ number
-      → {answer : Scheduled} → (answer.number ≡ number) × (answer.written ≡ 0) × (answer.openings ≡ 0) → SchedulePromise bytes budget before answer before
+module _ (bytes : List ℕ) (budget room : ℕ) where
+  -- with a number from 1 on before any search scheduling is refused
+  pub schedule_refused : (number : ℕ) → (number ≡ 0 → ⊥) → schedule_number bytes room ≡ number → scheduled bytes budget room ≡ refused number 0
   unfolding scheduled
-  schedule_refused zero some e told = absurd (some refl)
-  schedule_refused (suc n) some e told = rw e (record { number = told.0; written = told.1; openings = told.2; output = refl })
+  schedule_refused zero some e = absurd (some refl)
+  schedule_refused (suc n) some e = rw e
 
-  -- any other answers as the search does
-  pub schedule_searched : schedule_number bytes (length before) ≡ 0 → {found : Found} {after : List ℕ} → Answers (searched (normal_form (job_table bytes)) budget) found before after
-      → {answer : Scheduled} → answer.number ≡ found.number → answer.openings ≡ found.openings → answer.written ≡ length (searched (normal_form (job_table bytes)) budget).bytes
-      → SchedulePromise bytes budget before answer after
+  -- with 0 it is what the search comes to
+  pub schedule_searched : schedule_number bytes room ≡ 0 → scheduled bytes budget room ≡ searched (normal_form (job_table bytes)) budget
   unfolding scheduled
-  schedule_searched e a number openings written =
-      rw e (record { number = number ∙ a.number; written = written; openings = openings ∙ a.openings; output = a.output })
+  schedule_searched e = rw e
 
 -- the jobs that the code counts are the table's
 counted : {table : List JobRecord} {jobs : Jobs} {square : Square} → Holds table jobs square → length (present_in jobs) ≡ length (numbers table)
 counted {table} held = ap (λ (j : Jobs). length (present_in j)) held.jobs_held ∙ ap length (numbers_in table)
 
--- where one of 1 to 5 is given, scheduling gives it
-pub jobs_scheduled : (bytes : List ℕ) (room number : ℕ) → (number ≡ 0 → ⊥) → jobs_number bytes 0 ≡ number → schedule_number bytes room ≡ number
-unfolding schedule_number
-jobs_scheduled bytes room number some e = jobs_refused bytes number _ some e
-
 module _ {bytes : List ℕ} (formed : WellFormed bytes) where
-  module _ {square : Square} (made : square ≡ capped ceiling (gaps (job_table bytes))) (room : ℕ) where
-    -- 7
-    pub ring_scheduled : true ≡ ring_in square → schedule_number bytes room ≡ 7
-    unfolding schedule_number
-    ring_scheduled e = ring_number formed made _ e
-
-    -- 8
-    pub starts_scheduled : false ≡ ring_in square → true ≡ no_starts (job_table bytes) square → schedule_number bytes room ≡ 8
-    unfolding schedule_number
-    starts_scheduled no-ring e = starts_number_lem formed made no-ring _ e
-
   module _ {jobs : Jobs} {square : Square} (held : Holds (job_table bytes) jobs square) (room : ℕ) where
     -- 9, where there is no room for a slot of each of them
     pub room_scheduled : room < 12 * length (present_in jobs) → schedule_number bytes room ≡ 9
@@ -102,20 +78,13 @@ module _ {table : List JobRecord} {jobs : Jobs} {square : Square} (held : Holds 
       (λ k m. map_same (λ i. cell links i k) (λ i. strongest (normal_form table) i k) (count 0 48)
       (λ i n. ap (λ s. cell s i k) chose ∙ links_given held w same i k (below_48 i n) (below_48 k m)))
 
-  -- a search that is done writes a slot of each job
-  pub slots_length : (budget : ℕ) → (searched (normal_form table) budget).number ≡ 0 → 12 * length (present_in jobs) ≡ length (searched (normal_form table) budget).bytes
-  slots_length budget = means (searched_comes (normalisable held) budget)
+  -- a search that is done writes a slot of each job, and any other nothing
+  pub written_length : (budget : ℕ) → {number written : ℕ} → number ≡ (searched (normal_form table) budget).number
+      → (number ≡ 0 → written ≡ 12 * length (present_in jobs)) → ((number ≡ 0 → ⊥) → written ≡ 0) → written ≡ length (searched (normal_form table) budget).bytes
+  written_length budget = means (searched_comes (normalisable held) budget)
     where
-      means : {o : Outcome} → Comes table budget o → o.number ≡ 0 → 12 * length (present_in jobs) ≡ length o.bytes
-      means (spent h) e = absurd (omega arith)
-      means (nothing h impossible) e = absurd (omega arith)
-      means (given {q} h f) e = omega (arith, counted held, first_length (normalisable held) q f)
-
-  -- and any other nothing
-  pub no_slots : (budget : ℕ) → ((searched (normal_form table) budget).number ≡ 0 → ⊥) → 0 ≡ length (searched (normal_form table) budget).bytes
-  no_slots budget = means (searched_comes (normalisable held) budget)
-    where
-      means : {o : Outcome} → Comes table budget o → (o.number ≡ 0 → ⊥) → 0 ≡ length o.bytes
-      means (spent h) e = refl
-      means (nothing h impossible) e = refl
-      means (given h f) e = absurd (e refl)
+      means : {o : Outcome} → Comes table budget o → {number written : ℕ} → number ≡ o.number
+          → (number ≡ 0 → written ≡ 12 * length (present_in jobs)) → ((number ≡ 0 → ⊥) → written ≡ 0) → written ≡ length o.bytes
+      means (spent h) e all none = none (λ z. omega (arith, e))
+      means (nothing h impossible) e all none = none (λ z. omega (arith, e))
+      means (given {q} h f) e all none = omega (arith, all e, counted held, first_length (normalisable held) q f)

@@ -1,3 +1,4 @@
 pub mod Promise
+pub mod Answer
 pub mod Calls
 pub mod Print

@@ -23,7 +23,7 @@ pub record Case : Type 0 where
   pub room : ℕ
   pub outcome : Outcome
 
--- a pass as 01 writes it, with its cost, period, phase and finish
+-- a pass, with its cost, period, phase and finish
 abbrev pub p : ℕ → ℕ → ℕ → ℕ → ℕ → PassRecord
 p n c period phase within = P (pass n c period phase within)
 

@@ -1,4 +1,4 @@
--- Both sides of each bound that A to L leave untold, and the bytes of the records written out, by hand from 01.
+-- Both sides of each bound that A to L leave untold, and the bytes of the records written out, by hand.
 use Rattle.std.specs.Prelude.{ℕ, List, [], ◌∷◌, ◌++◌, replicate}
 use Rattle.records.specs.declared.PassRecord.{PassRecord}
 use Rattle.records.specs.declared.JobRecord.{JobRecord}

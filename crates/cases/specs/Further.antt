@@ -1,4 +1,4 @@
--- Cases K and L of 01, the example's expansion, and the rows that tell misreadings apart which A to L do not, worked by hand from 01.
+-- Cases K and L, the example's expansion, and the rows that tell misreadings apart which A to L do not, worked by hand.
 use Rattle.std.specs.Prelude.{ℕ, ◌+◌, ◌*◌, List, [], ◌∷◌, ◌++◌, map, replicate}
 use Rattle.laws.specs.Lists.{count}
 use Rattle.records.specs.declared.PassRecord.{PassRecord}
@@ -51,7 +51,7 @@ further =
     ∷ normalises (j 47 1 0 100 ∷ []) (j 47 1 0 100 ∷ [])
     ∷ refuses normalising (jobs (j 48 1 0 100 ∷ [])) 3 0
     ∷ refuses normalising (jobs (j 0 1 0 100 ∷ l 0 200 0 ∷ [])) 5 0
-    -- the example, as 01 expands it
+    -- the example, as it expands
     ∷ expands example_passes example_jobs
     -- never going back from the first open child
     ∷ schedules (j 0 1 0 4 ∷ j 1 2 0 4 ∷ j 2 1 2 3 ∷ []) 5 5 (s 1 0 2 ∷ s 2 2 3 ∷ s 0 3 4 ∷ [])

@@ -1,4 +1,4 @@
--- Cases A to J of 01, "Marked * are to be proved", every clause of each.
+-- Cases A to J, which "are to be proved", every clause of each.
 use Rattle.std.specs.Prelude.{ℕ, List, [], ◌∷◌}
 use Rattle.records.specs.declared.JobRecord.{JobRecord}
 use Rattle.cases.specs.Case.{Case, normalising, scheduling, expands, normalises, schedules, refuses, j, l, s, jobs}

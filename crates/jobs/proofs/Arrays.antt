@@ -5,7 +5,7 @@ use native.Mathlib.Omega.{arith}
 use mathlib.Core.Path.{◌≡◌, refl, sym, ap, ◌∙◌, fun_ext}
 use mathlib.Core.Bool.{Bool, true, false, cond, ◌||◌}
 use mathlib.Core.List.{List, [], ◌∷◌, map, reverse, reverse_aux}
-use mathlib.Core.Option.{none}
+use Rattle.std.specs.Prelude.{None}
 use lib.Dec.{eqb, ltb}
 use lib.ListN.{length, get_or, set, get_or-eq_default}
 use borrow.Author.Tests.{ltb-true, ltb-false, eqb-true, eq-eqb, ne_eqb}
@@ -35,7 +35,7 @@ unfolding jobs_of
 present_above table n h = get_or-eq_default (map (λ n. any (is_job n) table) (count 0 48)) false {n = n} (omega (arith, length_row (λ n. any (is_job n) table) 0 48))
 
 -- where 3 does not hold, no job has a number from 48 on
-none_above : (table : List JobRecord) → fault3 table ≡ none → (n : ℕ) → 48 ≤ n → any (is_job n) table ≡ false
+none_above : (table : List JobRecord) → fault3 table ≡ None → (n : ℕ) → 48 ≤ n → any (is_job n) table ≡ false
 unfolding fault3
 none_above table e n h = not_true_false (any (is_job n) table) (λ some-job.
     let r = any_job table n some-job in
@@ -43,7 +43,7 @@ none_above table e n h = not_true_false (any (is_job n) table) (λ some-job.
     omega (arith, r.2))
 
 -- so the marks then say of every number whether the table has a job with it
-pub present_any : (table : List JobRecord) → fault3 table ≡ none → (n : ℕ) → get_or (jobs_of table).present n false ≡ any (is_job n) table
+pub present_any : (table : List JobRecord) → fault3 table ≡ None → (n : ℕ) → get_or (jobs_of table).present n false ≡ any (is_job n) table
 present_any table e n = step (ltb n 48) refl
   where
     step : (t : Bool) → ltb n 48 ≡ t → get_or (jobs_of table).present n false ≡ any (is_job n) table
@@ -121,7 +121,7 @@ value_reverse value table h n = go table [] h
     go (L l ∷ table) before h = go table (L l ∷ before) h.1
 
 -- so a table that 3 does not refuse has the same jobs in reversed order
-jobs_reverse : (table : List JobRecord) → fault3 table ≡ none → jobs_of (reverse table) ≡ jobs_of table
+jobs_reverse : (table : List JobRecord) → fault3 table ≡ None → jobs_of (reverse table) ≡ jobs_of table
 unfolding jobs_of fault3
 jobs_reverse table e = same_jobs
     (ap (λ (f : ℕ → Bool). map f (count 0 48)) (fun_ext (λ n. any_reverse (is_job n) table)))
@@ -133,5 +133,5 @@ jobs_reverse table e = same_jobs
     reversed value = ap (λ (f : ℕ → ℕ). map f (count 0 48)) (fun_ext (value_reverse value table ((first_fault_none bad_number [] 0 table).0 e)))
 
 -- and once all of it is passed, what was filled are its jobs
-pub jobs_passed : (table : List JobRecord) (i : ℕ) → length table ≤ i → fault3 table ≡ none → jobs_of (behind i table) ≡ jobs_of table
+pub jobs_passed : (table : List JobRecord) (i : ℕ) → length table ≤ i → fault3 table ≡ None → jobs_of (behind i table) ≡ jobs_of table
 jobs_passed table i h three = ap jobs_of (behind_all table i h) ∙ jobs_reverse table three

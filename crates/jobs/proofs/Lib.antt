@@ -7,4 +7,3 @@ pub mod WellFormed
 pub mod Arrays
 pub mod Links
 pub mod Judging
-pub mod Records

@@ -5,7 +5,7 @@ use native.Mathlib.Omega.{arith}
 use mathlib.Core.Path.{◌≡◌, refl, sym}
 use mathlib.Core.Bool.{Bool, true, false}
 use mathlib.Core.List.{List}
-use mathlib.Core.Option.{Option, none, some}
+use Rattle.std.specs.Prelude.{Option, None, Some}
 use lib.Dec.{lit<}
 use Rattle.laws.specs.Lists.{found}
 use Rattle.laws.proofs.Members.{true_not_false}
@@ -21,14 +21,14 @@ refuse_passed n true later given other e = absurd (other (sym e))
 refuse_passed n false later given other e = (refl, e)
 
 -- where nothing was found there is no value
-pub found_none : {A : Type 0} (o : Option A) → found o ≡ false → o ≡ none
-found_none none e = refl
-found_none (some x) e = absurd (true_not_false refl e)
+pub found_none : {A : Type 0} (o : Option A) → found o ≡ false → o ≡ None
+found_none None e = refl
+found_none (Some x) e = absurd (true_not_false refl e)
 
 -- none of 1 to 5 holds of a job table's bytes
 pub record WellFormed (bytes : List ℕ) : Type 0 where
   pub whole : bad_length bytes ≡ false
-  pub readable : unreadable (read_all in_jobs bytes) ≡ none
+  pub readable : unreadable (read_all in_jobs bytes) ≡ None
   pub sound : Sound (job_table bytes)
 
 -- the number of such bytes is what comes after 1 to 5

@@ -1,12 +1,10 @@
 -- A table's jobs and links as the code holds them: arrays by job number, and a square of the strongest links.
-use Rattle.std.specs.Prelude.{ℕ, ◌≡◌, List, map}
+use Rattle.std.specs.Prelude.{ℕ, List, map}
 use Rattle.laws.specs.Lists.{any, count}
 use Rattle.records.specs.declared.JobRecord.{JobRecord}
 use Rattle.jobs.specs.Judge.{is_job}
 use Rattle.jobs.specs.Jobs.{cost, release, deadline, strongest}
-use Rattle.jobs.specs.Call.{job_table, jobs_number}
 use Rattle.jobs.specs.declared.Jobs.{Jobs}
-use Rattle.jobs.specs.declared.Judged.{Judged}
 
 -- the jobs by number: 0 where there is none
 unfoldable pub jobs_of : List JobRecord → Jobs
@@ -20,8 +18,3 @@ jobs_of table = record {
 -- the square of the strongest links: one more than the latency, 0 where there is none
 unfoldable pub links_of : List JobRecord → List (List ℕ)
 links_of table = map (λ i. map (strongest table i) (count 0 48)) (count 0 48)
-
--- what judging a table's bytes answers: the lowest of 1 to 5 that holds, or 0 and then its jobs
-pub record JudgedAs (bytes : List ℕ) (answer : Judged) : Type 0 where
-  pub number : answer.number ≡ jobs_number bytes 0
-  pub jobs : answer.number ≡ 0 → answer.jobs ≡ jobs_of (job_table bytes)

@@ -1,4 +1,4 @@
--- Start times, chains and rings in 01's own words. A choice of start times gives each job number its start.
+-- Start times, chains and rings in plain words. A choice of start times gives each job number its start.
 use Rattle.std.specs.Prelude.{ℕ, ◌+◌, ◌≤◌, ◌≡◌, ◌↔◌, ◌⊎◌}
 use mathlib.Core.List.{List, Memᴰ}
 use Rattle.laws.specs.Lists.{Every}
@@ -22,7 +22,7 @@ Permitted table start = Every (Meets table start) table
 abbrev pub Apart : (ℕ → ℕ) → Job → Job → Type 0
 Apart start a b = (start a.number + a.cost ≤ start b.number) ⊎ (start b.number + b.cost ≤ start a.number)
 
--- demand 2: "whole-number starts" that meet "every release, deadline and link with no two jobs overlapping"
+-- "whole-number starts" that meet "every release, deadline and link with no two jobs overlapping"
 pub record Feasible (table : List JobRecord) (start : ℕ → ℕ) : Type 0 where
   pub permitted : Permitted table start
   pub apart : (a b : Job) → Memᴰ (J a) table → Memᴰ (J b) table → (a.number ≡ b.number → ⊥) → Apart start a b
@@ -31,11 +31,11 @@ pub record Feasible (table : List JobRecord) (start : ℕ → ℕ) : Type 0 wher
 abbrev pub HasCost : List JobRecord → ℕ → ℕ → Type 0
 HasCost table n c = (j : Job) × Memᴰ (J j) table × (j.number ≡ n) × (j.cost ≡ c)
 
--- demand 3: "the same job numbers with the same costs"
+-- "the same job numbers with the same costs"
 abbrev pub SameJobs : List JobRecord → List JobRecord → Type 0
 SameJobs t u = (n c : ℕ) → HasCost t n c ↔ HasCost u n c
 
--- demand 3: "permit the same start times"
+-- "permit the same start times"
 abbrev pub SameStarts : List JobRecord → List JobRecord → Type 0
 SameStarts t u = (start : ℕ → ℕ) → Permitted t start ↔ Permitted u start
 

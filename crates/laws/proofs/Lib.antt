@@ -8,6 +8,8 @@ pub mod Tests
 pub mod Parts
 pub mod Rows
 pub mod Filling
+pub mod Closures
+pub mod Callable
 pub mod InPlace
 pub mod Scanning
 pub mod Walking

@@ -4,9 +4,15 @@ use native.Mathlib.Omega.{arith}
 use mathlib.Core.Path.{◌≡◌, refl, ap, ap₂, ◌∙◌}
 use mathlib.Core.Bool.{Bool, true, false, cond, and-eq-true_iff}
 use mathlib.Core.List.{List, [], ◌∷◌, map}
-use mathlib.Core.Option.{Option, none, some}
+use Rattle.std.specs.Prelude.{Option, None, Some}
+use Rattle.std.specs.List.{range_with_len}
 use lib.ListN.{length, get_or, drop}
 use Rattle.laws.specs.Lists.{count, all, Every}
+
+-- std's word for numbers in a row is ours
+pub numbers_same : (m n : ℕ) → range_with_len m n ≡ count m n
+numbers_same m zero = refl
+numbers_same m (suc n) = ap (◌∷◌ m) (numbers_same (m + 1) n)
 
 module _ {A : Type 0} where
   -- two lists are equally long and have equal elements at equal places
@@ -59,14 +65,14 @@ module _ {A : Type 0} where
 
   -- whatever an optional value gives has a property
   abbrev pub Gives : (A → Type 0) → Option A → Type 0
-  Gives P o = (r : A) → o ≡ some r → P r
+  Gives P o = (r : A) → o ≡ Some r → P r
 
   -- what gives nothing gives what one likes
-  pub gives_none : (P : A → Type 0) → Gives P none
+  pub gives_none : (P : A → Type 0) → Gives P None
   gives_none P r e = let z : ◌≡◌ {A = ℕ} 0 1 = cc in absurd (omega arith)
 
   -- a value with the property is given
-  pub gives_some : (P : A → Type 0) {x : A} → P x → Gives P (some x)
+  pub gives_some : (P : A → Type 0) {x : A} → P x → Gives P (Some x)
   gives_some P {x} h r e = let same : x ≡ r = cc in rw same at h
 
   -- a choice gives what its branches give, the first of them where the test passes

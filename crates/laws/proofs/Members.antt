@@ -9,7 +9,7 @@ use mathlib.Core.Logic.{◌↔◌, ◌⊎◌, inl, inr}
 use mathlib.Core.List.{List, [], ◌∷◌, ◌++◌, map}
 use mathlib.Core.List.Memᴰ
 use mathlib.Core.List.{Memᴰ}
-use mathlib.Core.Option.{Option, none, some}
+use Rattle.std.specs.Prelude.{Option, None, Some}
 use lib.Dec.{ltb}
 use lib.ListN.{length, length-append}
 use borrow.Author.Tests.{ltb-true, ltb-false}
@@ -131,14 +131,14 @@ module _ {A : Type 0} where
   Faultless bad before (x ∷ xs) = (bad before x ≡ false) × Faultless bad (x ∷ before) xs
 
   -- there is no first element at fault exactly when no element is
-  pub first_fault_none : (bad : List A → A → Bool) (before : List A) (place : ℕ) (xs : List A) → (first_fault bad before place xs ≡ none) ↔ Faultless bad before xs
+  pub first_fault_none : (bad : List A → A → Bool) (before : List A) (place : ℕ) (xs : List A) → (first_fault bad before place xs ≡ None) ↔ Faultless bad before xs
   first_fault_none bad before place [] = (λ e. tt, λ h. refl)
   first_fault_none bad before place (x ∷ xs) = step (bad before x) (first_fault_none bad (x ∷ before) (place + 1) xs)
     where
       later : Option ℕ
       later = first_fault bad (x ∷ before) (place + 1) xs
 
-      step : (t : Bool) → ((later ≡ none) ↔ Faultless bad (x ∷ before) xs) → (◌≡◌ {A = Option ℕ} (elim t [ true ↦ some place | false ↦ later ]) none) ↔ ((t ≡ false) × Faultless bad (x ∷ before) xs)
+      step : (t : Bool) → ((later ≡ None) ↔ Faultless bad (x ∷ before) xs) → (◌≡◌ {A = Option ℕ} (elim t [ true ↦ Some place | false ↦ later ]) None) ↔ ((t ≡ false) × Faultless bad (x ∷ before) xs)
       step true below = (λ f. let n : ◌≡◌ {A = ℕ} 0 1 = cc in absurd (omega arith), λ h. absurd (true_not_false refl h.0))
       step false below = (λ f. (refl, below.0 f), λ h. below.1 h.1)
 

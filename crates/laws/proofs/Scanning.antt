@@ -1,28 +1,12 @@
 -- A loop through the numbers from i on, up to n: what a word says of them is told by the number at hand and by those after it.
 use Prim.Native.Nat.{ℕ, ◌+◌, ◌-◌, ◌<◌, ◌≤◌}
 use mathlib.Core.Path.{◌≡◌, ap, ◌∙◌}
-use mathlib.Core.Bool.{Bool, true, false, ◌||◌}
+use mathlib.Core.Bool.{Bool, true, false}
 use mathlib.Core.List.{List, [], ◌∷◌, ◌++◌}
-use Rattle.laws.specs.Lists.{any, keep, only, flat, count}
+use Rattle.laws.specs.Lists.{keep, only, flat, count}
 use Rattle.laws.proofs.Counting.{count_more, count_end}
 
 module _ (p : ℕ → Bool) (i n : ℕ) where
-  -- below the end it holds of the number at hand, or of one after it
-  any_more : i < n → any p (count i (n - i)) ≡ (p i || any p (count (i + 1) (n - (i + 1))))
-  any_more h = ap (any p) (count_more i n h)
-
-  -- where the test holds, it holds of one of them
-  pub any_taken : i < n → p i ≡ true → any p (count i (n - i)) ≡ true
-  any_taken h e = any_more h ∙ ap (λ t. t || any p (count (i + 1) (n - (i + 1)))) e
-
-  -- where it does not, the question goes on to those after it
-  pub any_left : i < n → p i ≡ false → any p (count i (n - i)) ≡ any p (count (i + 1) (n - (i + 1)))
-  any_left h e = any_more h ∙ ap (λ t. t || any p (count (i + 1) (n - (i + 1)))) e
-
-  -- at the end it holds of none
-  pub any_none : n ≤ i → any p (count i (n - i)) ≡ false
-  any_none h = ap (any p) (count_end i n h)
-
   keep_more : i < n → keep p (count i (n - i)) ≡ only (p i) i ++ keep p (count (i + 1) (n - (i + 1)))
   keep_more h = ap (keep p) (count_more i n h)
 

@@ -6,7 +6,7 @@ use native.Mathlib.Omega.{arith}
 use mathlib.Core.Path.{◌≡◌, refl, sym, ap, ◌∙◌}
 use mathlib.Core.Bool.{Bool, true, false, ◌||◌, or_assoc, or_comm, or-false}
 use mathlib.Core.List.{List, [], ◌∷◌, ◌++◌, reverse, reverse_aux, reverse-append, Memᴰ}
-use mathlib.Core.Option.{none, some}
+use Rattle.std.specs.Prelude.{None, Some, slice_get}
 use lib.ListN.{length, take, drop, drop_of_length-le, take-append-drop}
 use lib.Seq.{take_all}
 use Rattle.laws.specs.Lists.{any, first_fault}
@@ -32,6 +32,25 @@ module _ {A : Type 0} where
       first zero (z ∷ zs) e = let same : z ≡ x = cc in rw same
       first (suc i) [] e = let z : ◌≡◌ {A = ℕ} 0 1 = cc in absurd (omega arith)
       first (suc i) (z ∷ zs) e = ap (λ (l : List A). z ∷ l) (first i zs e)
+
+  -- the next element stands at its place
+  pub next_get : (xs : List A) (i : ℕ) {x : A} → Next xs i x → slice_get xs i ≡ Some x
+  next_get xs i {x} next = go xs i next.rest
+    where
+      go : (xs : List A) (i : ℕ) {ys : List A} → drop i xs ≡ x ∷ ys → slice_get xs i ≡ Some x
+      go [] zero e = let z : ◌≡◌ {A = ℕ} 0 1 = cc in absurd (omega arith)
+      go [] (suc i) e = let z : ◌≡◌ {A = ℕ} 0 1 = cc in absurd (omega arith)
+      go (z ∷ zs) zero e = cc
+      go (z ∷ zs) (suc i) e = go zs i e
+
+  -- an element that stands at a place is the next one there
+  pub next_at : (xs : List A) (i : ℕ) {x : A} → slice_get xs i ≡ Some x → Next xs i x
+  next_at xs i {x} e = next_of xs i (go xs i e).1
+    where
+      go : (xs : List A) (i : ℕ) → slice_get xs i ≡ Some x → (ys : List A) × (drop i xs ≡ x ∷ ys)
+      go [] i e = let z : ◌≡◌ {A = ℕ} 0 1 = cc in absurd (omega arith)
+      go (z ∷ zs) zero e = let same : z ≡ x = cc in (zs, rw same)
+      go (z ∷ zs) (suc i) e = go zs i e
 
   -- a test holds of some element of a reversed list exactly when it does of the list
   pub any_reverse : (p : A → Bool) (xs : List A) → any p (reverse xs) ≡ any p xs
@@ -70,7 +89,7 @@ module _ {A : Type 0} (bad : List A → A → Bool) where
   first_good before place x ys good = rw (first_fault, good)
 
   -- where it is, its place is found
-  first_bad : (before : List A) (place : ℕ) (x : A) (ys : List A) → bad before x ≡ true → first_fault bad before place (x ∷ ys) ≡ some place
+  first_bad : (before : List A) (place : ℕ) (x : A) (ys : List A) → bad before x ≡ true → first_fault bad before place (x ∷ ys) ≡ Some place
   first_bad before place x ys at-fault = rw (first_fault, at-fault)
 
   module _ (xs : List A) where
@@ -83,9 +102,9 @@ module _ {A : Type 0} (bad : List A → A → Bool) where
     fault_step i {x} next good e = e ∙ rw (next.rest, behind_next xs i next) (first_good (behind i xs) i x (drop (i + 1) xs) good)
 
     -- an element at fault is the first one
-    pub fault_here : (i : ℕ) {x : A} → Next xs i x → bad (behind i xs) x ≡ true → FaultFrom i → first_fault bad [] 0 xs ≡ some i
+    pub fault_here : (i : ℕ) {x : A} → Next xs i x → bad (behind i xs) x ≡ true → FaultFrom i → first_fault bad [] 0 xs ≡ Some i
     fault_here i {x} next at-fault e = e ∙ rw next.rest (first_bad (behind i xs) i x (drop (i + 1) xs) at-fault)
 
     -- at the end there is none
-    pub fault_end : (i : ℕ) → length xs ≤ i → FaultFrom i → first_fault bad [] 0 xs ≡ none
+    pub fault_end : (i : ℕ) → length xs ≤ i → FaultFrom i → first_fault bad [] 0 xs ≡ None
     fault_end i h e = e ∙ rw (drop_of_length-le xs h)

@@ -1,6 +1,5 @@
 -- Words on lists and truth values that definitions of more than one crate use.
-use Rattle.std.specs.Prelude.{ℕ, zero, suc, ◌+◌, max, Bool, true, false, ◌&&◌, ◌||◌, List, [], ◌∷◌, ◌++◌}
-use Rattle.std.proofs.Math.Option.{Option, none, some}
+use Rattle.std.specs.Prelude.{ℕ, zero, suc, ◌+◌, max, Bool, true, false, ◌&&◌, ◌||◌, List, [], ◌∷◌, ◌++◌, Option, None, Some}
 
 -- the numbers from m on, n of them
 abbrev pub count : ℕ → ℕ → List ℕ
@@ -43,15 +42,16 @@ module _ {ℓ} {A : Type ℓ} where
   Every P [] = Unit {0}
   Every P (x ∷ xs) = P x × Every P xs
 
+module _ {A : Type 0} where
   -- there is a value
   abbrev pub found : Option A → Bool
-  found none = false
-  found (some x) = true
+  found None = false
+  found (Some x) = true
 
   -- the place of the first element at fault, counted on from `place`; the test also sees the elements before it, the last one first
   abbrev pub first_fault : (List A → A → Bool) → List A → ℕ → List A → Option ℕ
-  first_fault bad before place [] = none
-  first_fault bad before place (x ∷ xs) = elim (bad before x) [ true ↦ some place | false ↦ first_fault bad (x ∷ before) (place + 1) xs ]
+  first_fault bad before place [] = None
+  first_fault bad before place (x ∷ xs) = elim (bad before x) [ true ↦ Some place | false ↦ first_fault bad (x ∷ before) (place + 1) xs ]
 
 -- each element's own list, one after another
 abbrev pub flat {ℓ κ} : {A : Type ℓ} {B : Type κ} → (A → List B) → List A → List B

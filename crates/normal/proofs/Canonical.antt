@@ -1,4 +1,4 @@
--- Demand 3 on records: two tables that normalising does not refuse have one normal form exactly when they have the same job numbers with the same costs and permit the same start times.
+-- On records: two tables that normalising does not refuse have one normal form exactly when they have the same job numbers with the same costs and permit the same start times.
 -- Each one's earliest starts are permitted by the other, so earliest starts agree, and likewise latest. Where one table writes a pair, the other permits no start of the second job
 -- at its earliest with the first at its latest; so it has a chain there too, and a gap at least as large. The other way round, the normal form permits what its table permits.
 use Prim.Native.Nat.{ℕ, zero, suc, ◌+◌, ◌-◌, ◌<◌, ◌≤◌}

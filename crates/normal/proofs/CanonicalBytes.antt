@@ -1,4 +1,4 @@
--- Demand 3 on bytes: the normal form's bytes of two tables are equal exactly when the tables have the same job numbers with the same costs and permit the same starts,
+-- On bytes: the normal form's bytes of two tables are equal exactly when the tables have the same job numbers with the same costs and permit the same starts,
 -- and normalising them again gives the same bytes. The records of a normal form fit their bytes, so that the bytes decode to the records, and all of it follows from the records.
 use Prim.Native.Nat.{ℕ, ◌*◌, ◌%◌, ◌<◌}
 use native.Mathlib.Omega.{arith}

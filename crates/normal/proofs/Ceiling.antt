@@ -1,23 +1,17 @@
 -- The ceiling commutes with the rounds: the smaller of it and a sum, or of it and the larger of two numbers, depends on the two only through the smaller of it and each.
 -- So a square that is cut down to the ceiling after each round is the square of gaps, cut down to it. Stated over any ceiling above 0.
-use Prim.Native.Nat.{ℕ, zero, suc, ◌+◌, ◌-◌, ◌≤◌, ◌<◌, min, max}
+use Prim.Native.Nat.{ℕ, zero, suc, ◌<◌, min, max}
 use native.Mathlib.Nat.{min-zero}
 use native.Mathlib.Omega.{arith}
 use mathlib.Core.Path.{◌≡◌, refl, sym, ap, ap₂, ◌∙◌, fun_ext}
 use mathlib.Core.List.{List, [], ◌∷◌, map}
 use lib.ListN.{length, get_or, get_or-map}
 use Rattle.laws.specs.Lists.{count}
-use Rattle.laws.proofs.Lists.{every_get_d}
 use Rattle.laws.proofs.Filling.{map_places}
-use Rattle.normal.specs.Gaps.{Square, cell, weight, joined, widened, through_row, round, rounds}
+use Rattle.normal.specs.Gaps.{Square, joined, widened, through_row, round, rounds}
 use Rattle.normal.specs.Arrays.{capped, RowWithin, Within}
 use Rattle.normal.proofs.Closure.{joined_zero, joined_sum}
 use Rattle.normal.proofs.Squares.{length_widened, widened_cell}
-
--- what a link weighs that is there
-pub weight_above : (cost strongest : ℕ) → 0 < strongest → weight cost strongest ≡ cost + (strongest - 1)
-weight_above cost zero h = absurd (omega arith)
-weight_above cost (suc latency) h = omega arith
 
 -- a row with the chains through a job, cell by cell
 pub widened_places : (g : ℕ → ℕ) (a : ℕ) (row through : List ℕ) (n : ℕ) → length row ≡ n → length through ≡ n
@@ -47,10 +41,6 @@ module _ (most : ℕ) where
   unfolding capped
   within_stays [] h = refl
   within_stays (row ∷ square) h = ap₂ ◌∷◌ (row_stays row h.0) (within_stays square h.1)
-
-  -- no cell of a square within the ceiling is above it
-  pub within_cell : (square : Square) → Within most square → (i j : ℕ) → cell square i j ≤ most
-  within_cell square h i j = every_get_d (λ x. x ≤ most) (get_or square i []) 0 (omega arith) (every_get_d (RowWithin most) square [] tt h i) j
 
   -- of two numbers the larger one under the ceiling
   larger_cap : (a b : ℕ) → min most (max a b) ≡ max (min most a) (min most b)

@@ -1,4 +1,4 @@
--- What the square of gaps says in 01's own words: a cell of 0 that no chain of links leads from i to j, any other the largest sum along one.
+-- What the square of gaps says in plain words: a cell of 0 that no chain of links leads from i to j, any other the largest sum along one.
 -- Attained: the cells of the links are chains, and chains that join are chains. Bounding: every link weighs at most its cell, and where no ring shows the square is closed
 -- at every job of the table, so that the cells along a chain, joined link by link, make at most the cell between its ends.
 use Prim.Native.Nat.{ℕ, zero, suc, ◌+◌, ◌≤◌, ◌<◌}

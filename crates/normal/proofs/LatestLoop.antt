@@ -1,7 +1,7 @@
 -- The loop for the latest start of a job: at turn k it is the earlier of the time at hand, which is by the job's last start, and of what the jobs from k on ask.
-use Prim.Native.Nat.{ℕ, zero, suc, ◌+◌, ◌-◌, ◌<◌, ◌≤◌, min}
+use Prim.Native.Nat.{ℕ, ◌+◌, ◌<◌, ◌≤◌, min}
 use native.Mathlib.Omega.{arith}
-use mathlib.Core.Path.{◌≡◌, sym, ap, ap₂, ◌∙◌}
+use mathlib.Core.Path.{◌≡◌, sym, ap, ◌∙◌}
 use mathlib.Core.Bool.{true, false}
 use mathlib.Core.List.{List, map}
 use lib.ListN.{get_or}
@@ -11,46 +11,31 @@ use Rattle.jobs.specs.Arrays.{jobs_of}
 use Rattle.normal.specs.Gaps.{Square, cell}
 use Rattle.normal.specs.Windows.{before, smallest, last_start, latest_of}
 use Rattle.normal.proofs.WindowsLatest.{smallest_bounds}
-use Rattle.normal.proofs.NumbersFrom.{numbers_from, from_first, from_end, from_present, from_absent, cost_of, deadline_of}
+use Rattle.normal.proofs.NumbersFrom.{numbers_from, from_first, from_end, from_present, from_absent}
 
 -- the latest start of job j for the sake of some jobs
 abbrev granted : List JobRecord → Square → ℕ → List ℕ → ℕ
 granted table square j ks = smallest (last_start table j) (map (λ k. before (last_start table j) (last_start table k) (cell square j k)) ks)
-
--- a turn: with a time by the last start, the earlier of it and of what a job asks
-earlier_step : (time last other gap rest : ℕ) → time ≤ last → min time (min (before last other gap) rest) ≡ min (min time (before time other gap)) rest
-earlier_step time last other zero rest h = omega arith
-earlier_step time last other (suc gap) rest h = omega arith
 
 module _ (jobs : Jobs) (square : Square) (j : ℕ) where
   -- the latest start is the earlier of the time at hand and of what the jobs from k on ask
   abbrev pub LatestFrom : ℕ → ℕ → Type 0
   LatestFrom k time = (table : List JobRecord) → jobs ≡ jobs_of table → (time ≤ last_start table j) × (latest_of table square j ≡ min time (granted table square j (numbers_from table k)))
 
-  -- the last start of a number, as the arrays have it
-  last_of : (table : List JobRecord) → jobs ≡ jobs_of table → (n : ℕ) → n < 48 → get_or jobs.deadline n 0 - get_or jobs.cost n 0 ≡ last_start table n
-  unfolding last_start
-  last_of table same n h = ap₂ ◌-◌ (deadline_of table same n h) (cost_of table same n h)
-
   -- at first the time is the last start
-  pub latest_first : (time : ℕ) → j < 48 → time ≡ get_or jobs.deadline j 0 - get_or jobs.cost j 0 → LatestFrom 0 time
+  pub latest_first : (time : ℕ) → ((table : List JobRecord) → jobs ≡ jobs_of table → time ≡ last_start table j) → LatestFrom 0 time
   unfolding latest_of
-  latest_first time h e table same =
-      let last : time ≡ last_start table j = e ∙ last_of table same j h in
+  latest_first time last table same =
+      let own : time ≡ last_start table j = last table same in
       (omega arith, ap (granted table square j) (sym (from_first table)) ∙ omega (arith, (smallest_bounds (last_start table j) (map (λ k. before (last_start table j) (last_start table k) (cell square j k)) (numbers_from table 0))).0))
 
   module _ (k time : ℕ) (below : k < 48) (inv : LatestFrom k time) where
     -- a turn at a job that is present
-    pub latest_present : (next : ℕ) → get_or jobs.present k false ≡ true → next ≡ min time (before time (get_or jobs.deadline k 0 - get_or jobs.cost k 0) (cell square j k)) → LatestFrom (k + 1) next
+    pub latest_present : (next : ℕ) → get_or jobs.present k false ≡ true → ((table : List JobRecord) → jobs ≡ jobs_of table → next ≡ min time (before (last_start table j) (last_start table k) (cell square j k))) → LatestFrom (k + 1) next
     latest_present next e made table same =
-        let here : next ≡ min time (before time (last_start table k) (cell square j k)) = made ∙ ap (λ last. min time (before time last (cell square j k))) (last_of table same k below) in
-        let old = inv table same in (
-          omega arith,
-          old.1
-              ∙ ap (λ ks. min time (granted table square j ks)) (from_present table same k below e)
-              ∙ earlier_step time (last_start table j) (last_start table k) (cell square j k) (granted table square j (numbers_from table (k + 1))) old.0
-              ∙ ap (λ t. min t (granted table square j (numbers_from table (k + 1)))) (sym here),
-        )
+        let here = made table same in
+        let old = inv table same in
+        (omega arith, old.1 ∙ ap (λ ks. min time (granted table square j ks)) (from_present table same k below e) ∙ omega arith)
 
     -- a turn at a number of no job
     pub latest_absent : get_or jobs.present k false ≡ false → LatestFrom (k + 1) time

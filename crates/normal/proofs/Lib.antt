@@ -2,6 +2,7 @@
 pub mod Computes
 pub mod Cases
 pub mod Closure
+pub mod Counts
 pub mod Squares
 pub mod Chains
 pub mod WindowsEarliest

@@ -4,6 +4,7 @@ use Prim.Native.Nat.{ℕ, zero, suc, ◌+◌, ◌<◌, ◌≤◌, min}
 use mathlib.Core.Path.{◌≡◌, refl, sym, ap, ◌∙◌}
 use mathlib.Core.List.{List, [], map, map-map}
 use lib.ListN.{length, get_or, set}
+use lib.Seq.{set-get_or}
 use Rattle.laws.proofs.Lists.{every_get_d}
 use Rattle.laws.proofs.InPlace.{partly, partly_read, partly_more, partly_same, partly_all}
 use Rattle.normal.specs.Gaps.{Square, cell, widened, through_row, round}
@@ -41,9 +42,9 @@ module _ (most k : ℕ) (square : Square) where
       row_now = ap (λ s. get_or s i []) e ∙ partly_read (passed most k (get_or square k [])) [] square i h
 
       -- a row that stays
-      pub row_left : cell now i k ≡ 0 → now ≡ passing (i + 1)
+      pub row_left : cell now i k ≡ 0 → set now i (get_or now i []) ≡ passing (i + 1)
       row_left z =
-          e ∙ partly_same (passed most k (get_or square k [])) [] square i h
+          set-get_or now i [] ∙ e ∙ partly_same (passed most k (get_or square k [])) [] square i h
           (ap (map (min most)) (through_none _ (get_or square i []) (get_or square k []) (rw row_now at z)) ∙ row_stays most (get_or square i []) (row_of i))
 
       -- a row that is widened

@@ -1,19 +1,21 @@
--- The loop for 8: at turn j some job is late exactly when one from j on is.
-use Prim.Native.Nat.{ℕ, ◌+◌, ◌<◌, ◌≤◌}
+-- 8 as the code asks it: some number is that of a job, and this job is late.
+use Prim.Native.Nat.{ℕ, zero, suc, ◌+◌, ◌<◌}
+use native.Mathlib.Omega.{arith}
 use mathlib.Core.Path.{◌≡◌, refl, sym, ap, ◌∙◌}
-use mathlib.Core.Bool.{Bool, true, false, ◌||◌}
-use mathlib.Core.List.{List, [], ◌∷◌, map}
+use mathlib.Core.Bool.{Bool, true, false, ◌&&◌, ◌||◌}
+use mathlib.Core.List.{List, [], ◌∷◌, ◌++◌, map}
 use lib.Dec.{ltb}
 use lib.ListN.{get_or}
-use Rattle.laws.specs.Lists.{any}
+use Rattle.laws.specs.Lists.{any, keep, only, count}
 use Rattle.records.specs.declared.Job.{Job}
 use Rattle.records.specs.declared.JobRecord.{JobRecord}
 use Rattle.jobs.specs.declared.Jobs.{Jobs}
+use Rattle.jobs.specs.Judge.{is_job}
 use Rattle.jobs.specs.Jobs.{numbers, cost, deadline, job_at, jobs_in_order}
 use Rattle.jobs.specs.Arrays.{jobs_of}
 use Rattle.normal.specs.Gaps.{Square}
 use Rattle.normal.specs.Windows.{earliest_of, no_starts}
-use Rattle.normal.proofs.NumbersFrom.{numbers_from, from_first, from_end, from_present, from_absent}
+use Rattle.normal.proofs.NumbersFrom.{present_of}
 
 -- a test holds of some job exactly when it holds of some number's job
 any_map : {A B : Type 0} (p : B → Bool) (f : A → B) (xs : List A) → any p (map f xs) ≡ any (λ x. p (f x)) xs
@@ -29,28 +31,17 @@ pub starts_late : (table : List JobRecord) (square : Square) → no_starts table
 unfolding no_starts jobs_in_order job_at
 starts_late table square = any_map (λ (j : Job). ltb j.deadline (earliest_of table square j.number + j.cost)) (job_at table) (numbers table)
 
-module _ (jobs : Jobs) (square : Square) where
-  -- some job is late exactly when one from j on is
-  abbrev pub LateFrom : ℕ → Type 0
-  LateFrom j = (table : List JobRecord) → jobs ≡ jobs_of table → no_starts table square ≡ any (is_late table square) (numbers_from table j)
+-- a test holds of some number of a row that another test keeps, exactly when both hold of some number
+any_kept : (p q r : ℕ → Bool) (m n : ℕ) → ((k : ℕ) → k < m + n → r k ≡ q k) → any (λ k. r k && p k) (count m n) ≡ any p (keep q (count m n))
+any_kept p q r m zero same = refl
+any_kept p q r m (suc n) same = ap (λ t. (t && p m) || any (λ k. r k && p k) (count (m + 1) n)) (same m (omega arith)) ∙ step (q m) (any_kept p q r (m + 1) n (λ k b. same k (omega arith)))
+  where
+    step : (t : Bool) → any (λ k. r k && p k) (count (m + 1) n) ≡ any p (keep q (count (m + 1) n)) → ((t && p m) || any (λ k. r k && p k) (count (m + 1) n)) ≡ any p (only t m ++ keep q (count (m + 1) n))
+    step true e = ap (λ s. p m || s) e
+    step false e = e
 
-  -- at first it is the definition
-  pub late_first : LateFrom 0
-  late_first table same = starts_late table square ∙ ap (any (is_late table square)) (sym (from_first table))
-
-  module _ (j : ℕ) (below : j < 48) (inv : LateFrom j) where
-    -- a job that is late decides
-    pub late_here : get_or jobs.present j false ≡ true → (table : List JobRecord) → jobs ≡ jobs_of table → is_late table square j ≡ true → no_starts table square ≡ true
-    late_here e table same late = inv table same ∙ ap (any (is_late table square)) (from_present table same j below e) ∙ ap (λ t. t || any (is_late table square) (numbers_from table (j + 1))) late
-
-    -- a job that is not leaves the question to those after it
-    pub late_present : get_or jobs.present j false ≡ true → ((table : List JobRecord) → jobs ≡ jobs_of table → is_late table square j ≡ false) → LateFrom (j + 1)
-    late_present e timely table same = inv table same ∙ ap (any (is_late table square)) (from_present table same j below e) ∙ ap (λ t. t || any (is_late table square) (numbers_from table (j + 1))) (timely table same)
-
-    -- so does a number of no job
-    pub late_absent : get_or jobs.present j false ≡ false → LateFrom (j + 1)
-    late_absent e table same = inv table same ∙ ap (any (is_late table square)) (from_absent table same j below e)
-
-  -- at the end none is late
-  pub late_end : (j : ℕ) → 48 ≤ j → LateFrom j → (table : List JobRecord) → jobs ≡ jobs_of table → no_starts table square ≡ false
-  late_end j h inv table same = inv table same ∙ ap (any (is_late table square)) (from_end table j h)
+-- so 8 is that some number is marked and its job late
+pub starts_marked : (jobs : Jobs) (square : Square) (table : List JobRecord) → jobs ≡ jobs_of table → any (λ j. get_or jobs.present j false && is_late table square j) (count 0 48) ≡ no_starts table square
+unfolding numbers
+starts_marked jobs square table same =
+    any_kept (is_late table square) (λ n. any (is_job n) table) (λ j. get_or jobs.present j false) 0 48 (λ k b. present_of table same k b) ∙ sym (starts_late table square)

@@ -5,33 +5,26 @@ ghost use Rattle.normal.specs.Chosen.{chosen_cell, chosen_row, chosen, Writable}
 
 use crate::Windows;
 use jobs::Jobs;
+use std::array;
 
 // One more than the latency of a pair that is written, and 0 of one that is not.
 fn choose_cell(cost: u16, latest: u16, earliest: u16, gap: u32) -> u16
     requires { Writable cost gap }
     ensures { result ≡ chosen_cell cost latest earliest gap }
 {
-    if gap == 0 {
-        return 0;
+    if gap != 0 && u32::from(earliest) < gap + u32::from(latest) {
+        (gap - u32::from(cost) + 1) as u16
+    } else {
+        0
     }
-    if (earliest as u32) < gap + latest as u32 {
-        return (gap - cost as u32 + 1) as u16;
-    }
-    0
 }
 
 // The links from one job that are written.
-fn choose_row(cost: u16, latest: u16, earliest: [u16; 48], row: [u32; 48]) -> [u16; 48]
-    requires { (j : ℕ) → Writable cost (get_or row j 0) }
-    ensures { result ≡ chosen_row cost latest earliest row }
+fn choose_row(cost: u16, latest: u16, earliest: &[u16; 48], row: &[u32; 48]) -> [u16; 48]
+    requires { (j : ℕ) → Writable cost (get_or row.now j 0) }
+    ensures { result ≡ chosen_row cost latest earliest.now row.now }
 {
-    let mut links = [0u16; 48];
-    let mut j: usize = 0;
-    while j < 48 {
-        links[j] = choose_cell(cost, latest, earliest[j], row[j]);
-        j += 1;
-    }
-    links
+    array::from_fn(|j| choose_cell(cost, latest, earliest[j], row[j]))
 }
 
 // All links that are written.
@@ -39,12 +32,14 @@ pub fn choose(jobs: Jobs, windows: Windows, square: [[u32; 48]; 48]) -> [[u16; 4
     requires { (i j : ℕ) → Writable (get_or jobs.cost i 0) (cell square i j) }
     ensures { result ≡ chosen jobs windows square }
 {
-    let earliest = windows.earliest;
-    let mut links = [[0u16; 48]; 48];
-    let mut i: usize = 0;
-    while i < 48 {
-        links[i] = choose_row(jobs.cost[i], windows.latest[i], earliest, square[i]);
-        i += 1;
+    let mut links = [[0; 48]; 48];
+    for i in 0..48 {
+        links[i] = choose_row(
+            jobs.cost[i],
+            windows.latest[i],
+            &windows.earliest,
+            &square[i],
+        );
     }
     links
 }

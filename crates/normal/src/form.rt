@@ -11,23 +11,18 @@ ghost use Rattle.normal.specs.Chosen.{EndsFit};
 
 use crate::Windows;
 use jobs::Jobs;
+use std::array;
 
 // The normal form's jobs: cost as it was, release = earliest start, deadline = latest start + cost.
 pub fn tightened(jobs: Jobs, tight: Windows) -> Jobs
     requires { EndsFit jobs tight }
     ensures { (table : List JobRecord) (square : Square) → Holds table jobs square → tight ≡ windows table square → result ≡ jobs_of (normal_form table) }
 {
-    let mut deadline = [0u16; 48];
-    let mut n: usize = 0;
-    while n < 48 {
-        deadline[n] = tight.latest[n] + jobs.cost[n];
-        n += 1;
-    }
     Jobs {
         present: jobs.present,
         cost: jobs.cost,
         release: tight.earliest,
-        deadline,
+        deadline: array::from_fn(|n| tight.latest[n] + jobs.cost[n]),
     }
 }
 
@@ -36,24 +31,16 @@ fn turned_row(links: &[[u16; 48]; 48], k: usize) -> [u16; 48]
     requires { k < 48 }
     ensures { result ≡ map (λ i. cell links.now i k) (count 0 48) }
 {
-    let mut row = [0u16; 48];
-    let mut i: usize = 0;
-    while i < 48 {
-        row[i] = links[i][k];
-        i += 1;
-    }
-    row
+    array::from_fn(|i| links[i][k])
 }
 
 // The links by to and then from, given by from and then to.
 pub fn turned(links: [[u16; 48]; 48]) -> [[u16; 48]; 48]
     ensures { result ≡ map (λ k. map (λ i. cell links i k) (count 0 48)) (count 0 48) }
 {
-    let mut into = [[0u16; 48]; 48];
-    let mut k: usize = 0;
-    while k < 48 {
+    let mut into = [[0; 48]; 48];
+    for k in 0..48 {
         into[k] = turned_row(&links, k);
-        k += 1;
     }
     into
 }

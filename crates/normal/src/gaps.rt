@@ -1,11 +1,12 @@
 // The longest gap between every two jobs: a square of gaps by value, 48 by 48. A cell of 0 says that no chain leads from i to j.
-ghost use Rattle.std.specs.Prelude.{◌≡◌, List, map, ◌≤◌, ◌<◌, min, max, length};
+ghost use Rattle.std.specs.Prelude.{◌≡◌, ℕ, List, map, ◌≤◌, ◌<◌, min, max, get_or};
 ghost use Rattle.records.specs.declared.JobRecord.{JobRecord};
 ghost use Rattle.jobs.specs.Arrays.{jobs_of, links_of};
 ghost use Rattle.normal.specs.Gaps as gaps;
-ghost use Rattle.normal.specs.Arrays.{ceiling, capped, weighed, RowWithin, Within};
+ghost use Rattle.normal.specs.Arrays.{ceiling, capped, weighed, Within};
 
 use jobs::Jobs;
+use std::array;
 
 // No cell of the square is larger: a gap as long as this misses every deadline.
 const CEILING: u32 = 65535;
@@ -17,35 +18,24 @@ fn link_cell(cost: u16, strongest: u16) -> u32
     if strongest == 0 {
         return 0;
     }
-    let gap = cost as u32 + (strongest as u32 - 1);
-    if CEILING < gap {
-        return CEILING;
-    }
-    gap
+    let gap = u32::from(cost) + (u32::from(strongest) - 1);
+    gap.min(CEILING)
 }
 
 // The links from one job.
-fn link_row(cost: u16, links: [u16; 48]) -> [u32; 48]
-    ensures { result ≡ map (min ceiling) (map (gaps.weight cost) links) }
+fn link_row(cost: u16, links: &[u16; 48]) -> [u32; 48]
+    ensures { result ≡ map (min ceiling) (map (gaps.weight cost) links.now) }
 {
-    let mut row = [0u32; 48];
-    let mut j: usize = 0;
-    while j < 48 {
-        row[j] = link_cell(cost, links[j]);
-        j += 1;
-    }
-    row
+    array::from_fn(|j| link_cell(cost, links[j]))
 }
 
 // The square of the links.
 fn link_square(cost: [u16; 48], links: [[u16; 48]; 48]) -> [[u32; 48]; 48]
     ensures { result ≡ capped ceiling (weighed cost links) }
 {
-    let mut square = [[0u32; 48]; 48];
-    let mut i: usize = 0;
-    while i < 48 {
-        square[i] = link_row(cost[i], links[i]);
-        i += 1;
+    let mut square = [[0; 48]; 48];
+    for i in 0..48 {
+        square[i] = link_row(cost[i], &links[i]);
     }
     square
 }
@@ -58,43 +48,28 @@ fn widened_cell(c: u32, a: u32, b: u32) -> u32
     if b == 0 {
         return c;
     }
-    let through = a + b;
-    if CEILING < through {
-        return CEILING;
-    }
-    if c < through {
-        return through;
-    }
-    c
+    c.max(a + b).min(CEILING)
 }
 
 // A row with the chains through a job: a is the row's own chain to that job, and `through` that job's row.
-fn widened_row(a: u32, row: [u32; 48], through: [u32; 48]) -> [u32; 48]
-    requires { (0 < a) × (a ≤ ceiling) × RowWithin ceiling row × RowWithin ceiling through }
-    ensures { result ≡ map (min ceiling) (gaps.widened a row through) }
+fn widened_row(a: u32, row: &[u32; 48], through: &[u32; 48]) -> [u32; 48]
+    requires { (0 < a) × (a ≤ ceiling) × ((j : ℕ) → (get_or row.now j 0 ≤ ceiling) × (get_or through.now j 0 ≤ ceiling)) }
+    ensures { result ≡ map (min ceiling) (gaps.widened a row.now through.now) }
 {
-    let mut next = [0u32; 48];
-    let mut j: usize = 0;
-    while j < 48 {
-        next[j] = widened_cell(row[j], a, through[j]);
-        j += 1;
-    }
-    next
+    array::from_fn(|j| widened_cell(row[j], a, through[j]))
 }
 
 // The square with the chains through job k: a row from which no chain leads to k stays as it is.
 fn round(k: usize, square: &mut [[u32; 48]; 48])
-    requires { (k < 48) × (length square.old ≡ 48) × Within ceiling square.old }
+    requires { (k < 48) × Within ceiling square.old }
     ensures { square.new ≡ capped ceiling (gaps.round k square.old) }
 {
     let through = square[k];
-    let mut i: usize = 0;
-    while i < 48 {
-        let a = square[i][k];
+    for row in square {
+        let a = row[k];
         if a != 0 {
-            square[i] = widened_row(a, square[i], through);
+            *row = widened_row(a, row, &through);
         }
-        i += 1;
     }
 }
 
@@ -102,28 +77,18 @@ fn round(k: usize, square: &mut [[u32; 48]; 48])
 pub fn gaps(jobs: Jobs, links: [[u16; 48]; 48]) -> [[u32; 48]; 48]
     ensures { (table : List JobRecord) → jobs ≡ jobs_of table → links ≡ links_of table → result ≡ capped ceiling (gaps.gaps table) }
 {
-    let cost = jobs.cost;
-    let mut square = link_square(cost, links);
-    let mut k: usize = 0;
-    while k < 48 {
+    let mut square = link_square(jobs.cost, links);
+    for k in 0..48 {
         if jobs.present[k] {
             round(k, &mut square);
         }
-        k += 1;
     }
     square
 }
 
-// 7: the links form a ring.
+// Whether the links form a ring: a chain leads from some job back to it.
 pub fn ring_in(square: [[u32; 48]; 48]) -> bool
     ensures { result ≡ gaps.ring_in square }
 {
-    let mut n: usize = 0;
-    while n < 48 {
-        if square[n][n] != 0 {
-            return true;
-        }
-        n += 1;
-    }
-    false
+    (0..48).any(|n| square[n][n] != 0)
 }

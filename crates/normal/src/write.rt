@@ -1,5 +1,6 @@
 // The records of the normal form, counted and written: the jobs by number, and the links straight after the last job.
-ghost use Rattle.std.specs.Prelude.{◌≡◌, map, ◌++◌, ◌+◌, ◌*◌, ◌≤◌, ◌<◌, length};
+ghost use Rattle.std.specs.Prelude.{◌≡◌, ◌==◌, not, map, ◌++◌, ◌+◌, ◌*◌, ◌≤◌, ◌<◌, length, count_by, slice_index};
+ghost use Rattle.laws.specs.Lists.{count};
 ghost use Rattle.std.proofs.Math.Seq.{paste};
 ghost use Rattle.records.specs.Record.{job_bytes};
 ghost use Rattle.records.specs.Table.{encode};
@@ -9,36 +10,26 @@ ghost use Rattle.normal.specs.Chosen.{present_in, jobs_in, EndsFit, row_links, l
 
 use crate::Windows;
 use jobs::Jobs;
-use records::write::{write_job, write_link};
-use records::{Job, Link};
+use records::write::write;
+use records::{Job, JobRecord, Link};
 
 // How many jobs there are.
 pub fn count_jobs(jobs: Jobs) -> usize
     ensures { (result ≤ 48) × (result ≡ length (present_in jobs)) }
 {
-    let mut count: usize = 0;
-    let mut n: usize = 0;
-    while n < 48 {
-        if jobs.present[n] {
-            count += 1;
-        }
-        n += 1;
-    }
-    count
+    jobs.present.iter().filter(|present| **present).count()
 }
 
-// How many links from job i are written.
-fn count_row(links: &[[u16; 48]; 48], i: usize) -> usize
-    requires { i < 48 }
-    ensures { (result ≤ 48) × (result ≡ length (row_links links.now i)) }
+// How many links a row holds: a cell that is not 0 holds one.
+fn count_row(row: &[u16; 48]) -> usize
+    ensures upper_bound { result ≤ 48 }
+    ensures value { result ≡ count_by (λ j. not (slice_index row.now j == 0)) (count 0 48) }
 {
-    let mut count: usize = 0;
-    let mut j: usize = 0;
-    while j < 48 {
-        if links[i][j] != 0 {
+    let mut count = 0;
+    for cell in row {
+        if *cell != 0 {
             count += 1;
         }
-        j += 1;
     }
     count
 }
@@ -47,40 +38,27 @@ fn count_row(links: &[[u16; 48]; 48], i: usize) -> usize
 pub fn count_links(links: [[u16; 48]; 48]) -> usize
     ensures { (result ≤ 2304) × (result ≡ length (links_in links)) }
 {
-    let mut count: usize = 0;
-    let mut i: usize = 0;
-    while i < 48 {
-        count += count_row(&links, i);
-        i += 1;
-    }
-    count
+    links.iter().map(count_row).sum()
 }
 
 // The jobs, from the start of the output on.
-fn write_jobs(out: &mut [u8], jobs: Jobs, windows: Windows)
-    requires { EndsFit jobs windows × (12 * length (present_in jobs) ≤ length out.old) }
-    ensures { out.new ≡ overwrite (encode job_bytes (map J (jobs_in jobs windows))) out.old }
+fn write_jobs(out: &mut [u8], jobs: &Jobs, windows: &Windows)
+    requires { EndsFit jobs.now windows.now × (12 * length (present_in jobs.now) ≤ length out.old) }
+    ensures { out.new ≡ overwrite (encode job_bytes (map J (jobs_in jobs.now windows.now))) out.old }
 {
-    let mut place: usize = 0;
-    let mut n: usize = 0;
-    while n < 48 {
+    let mut place = 0;
+    for n in 0..48 {
         if jobs.present[n] {
             let cost = jobs.cost[n];
-            let release = windows.earliest[n];
-            let deadline = windows.latest[n] + cost;
-            write_job(
-                out,
-                place,
-                Job {
-                    number: n as u8,
-                    cost,
-                    release,
-                    deadline,
-                },
-            );
+            let job = Job {
+                number: n as u8,
+                cost,
+                release: windows.earliest[n],
+                deadline: windows.latest[n] + cost,
+            };
+            write(out, place, JobRecord::J(job));
             place += 1;
         }
-        n += 1;
     }
 }
 
@@ -91,37 +69,29 @@ fn write_row(out: &mut [u8], first: usize, links: &[[u16; 48]; 48], i: usize) ->
     ensures out_after { out.new ≡ paste out.old (12 * first) (encode job_bytes (map L (row_links links.now i))) (12 * length (map L (row_links links.now i))) }
 {
     let mut place = first;
-    let mut j: usize = 0;
-    while j < 48 {
+    for j in 0..48 {
         let cell = links[i][j];
         if cell != 0 {
-            let latency = cell - 1;
-            write_link(
-                out,
-                place,
-                Link {
-                    from: i as u8,
-                    to: j as u8,
-                    latency,
-                },
-            );
+            let link = Link {
+                from: i as u8,
+                to: j as u8,
+                latency: cell - 1,
+            };
+            write(out, place, JobRecord::L(link));
             place += 1;
         }
-        j += 1;
     }
     place
 }
 
 // The links, from the start of the writer's own part of the output on.
-fn write_links(out: &mut [u8], links: [[u16; 48]; 48])
-    requires { 12 * length (links_in links) ≤ length out.old }
-    ensures { out.new ≡ overwrite (encode job_bytes (map L (links_in links))) out.old }
+fn write_links(out: &mut [u8], links: &[[u16; 48]; 48])
+    requires { 12 * length (links_in links.now) ≤ length out.old }
+    ensures { out.new ≡ overwrite (encode job_bytes (map L (links_in links.now))) out.old }
 {
-    let mut place: usize = 0;
-    let mut i: usize = 0;
-    while i < 48 {
-        place = write_row(out, place, &links, i);
-        i += 1;
+    let mut place = 0;
+    for i in 0..48 {
+        place = write_row(out, place, links, i);
     }
 }
 
@@ -131,6 +101,6 @@ pub fn write_normal(out: &mut [u8], jobs: Jobs, windows: Windows, links: [[u16; 
     ensures { out.new ≡ overwrite (encode job_bytes (map J (jobs_in jobs windows) ++ map L (links_in links))) out.old }
 {
     let middle = 12 * count_jobs(jobs);
-    write_jobs(out, jobs, windows);
-    write_links(&mut out[middle..], links);
+    write_jobs(out, &jobs, &windows);
+    write_links(&mut out[middle..], &links);
 }

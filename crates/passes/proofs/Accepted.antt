@@ -3,7 +3,7 @@
 use Prim.Native.Nat.{ℕ, ◌*◌, ◌/◌, ◌≤◌}
 use mathlib.Core.Path.{◌≡◌, ap, ◌∙◌}
 use mathlib.Core.List.{List, Memᴰ}
-use mathlib.Core.Option.{none}
+use Rattle.std.specs.Prelude.{None}
 use lib.ListN.{length}
 use Rattle.laws.specs.Lists.{flat}
 use Rattle.records.specs.Record.{in_passes}
@@ -13,7 +13,8 @@ use Rattle.records.proofs.Finding.{whole_records}
 use Rattle.passes.specs.declared.Passes.{Passes}
 use Rattle.passes.specs.Expand.{passes_in_order, flows_of, flow_links, job_count}
 use Rattle.passes.specs.Call.{pass_table}
-use Rattle.passes.specs.Arrays.{in_order, AllTimely, Accepted}
+use Rattle.passes.specs.Timely.{in_order, AllTimely}
+use Rattle.passes.specs.Arrays.{Accepted}
 use Rattle.passes.specs.Ends.{record_links, FlowFits}
 use Rattle.passes.proofs.Held.{held_order}
 use Rattle.passes.proofs.Flows.{links_each, record_fits}
@@ -28,20 +29,21 @@ module _ (bytes : List ℕ) {passes : Passes} {cycle : ℕ} (ok : Accepted bytes
   pub whole_table : (length bytes ≡ 12 * (length bytes / 12)) × (length bytes ≤ 49152)
   whole_table = whole_records bytes within.one
 
-  pub all_read : unreadable (read_all in_passes bytes) ≡ none
+  pub all_read : unreadable (read_all in_passes bytes) ≡ None
   all_read = within.two
 
-  -- its passes' windows lie within their periods
+  -- what a plan keeps is true of them: its passes' windows lie within their periods, and its cycle is within the limit
   pub all_timely : AllTimely passes
   all_timely = timely_held (pass_table bytes) ok.passes within.sound
 
-  -- its cycle and its jobs are within the limits
   pub cycle_within : cycle ≤ 48000
   cycle_within = rw ok.cycle within.ticks
 
+  -- its passes by rising number are the table's
   pub passes_order : in_order passes ≡ passes_in_order (pass_table bytes)
   passes_order = ap in_order ok.passes ∙ held_order (pass_table bytes)
 
+  -- its jobs are within the limit
   pub jobs_within : job_count cycle (in_order passes) ≤ 48
   jobs_within = rw (passes_order, ok.cycle) within.jobs
 

@@ -11,7 +11,8 @@ use Rattle.records.specs.declared.Link.{Link}
 use Rattle.records.specs.declared.PassRecord.{PassRecord}
 use Rattle.passes.specs.Judge.{is_pass}
 use Rattle.passes.specs.Expand.{pass_at, passes_in_order, flows_of, cycle_of, instances, job_count, first_job, flow_links}
-use Rattle.passes.specs.Arrays.{passes_of, in_order}
+use Rattle.passes.specs.Timely.{in_order}
+use Rattle.passes.specs.Arrays.{passes_of}
 use Rattle.passes.proofs.Sound.{Sound, flows_member, flow_known, number_limits}
 use Rattle.passes.proofs.First.{first_order, first_within}
 use Rattle.passes.proofs.Held.{held_order}

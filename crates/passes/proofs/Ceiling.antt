@@ -1,23 +1,56 @@
--- The cycle as the code finds it: 48,001 stands for all that is over 48,000, and the search for it stops there.
+-- The cycle as the code finds it: there is none over 48,000, and the search for it stops there.
 -- A cycle only grows, so that once it has passed 48,000 the whole cycle has.
-use Prim.Native.Nat.{ℕ, ◌+◌, ◌/◌, ◌%◌, ◌<◌, ◌≤◌, ◌∣◌, min}
-use native.Mathlib.Nat.{div-le_self, dvd_of_mod-eq-zero, mod-eq-zero_of_dvd}
+use Prim.Native.Nat.{ℕ, ◌+◌, ◌/◌, ◌%◌, ◌<◌, ◌≤◌, ◌∣◌}
+use native.Mathlib.Nat.{div-le_self, dvd_refl, dvd-add, dvd_of_mod-eq-zero, mod-eq-zero_of_dvd}
 use native.Mathlib.Omega.{arith}
 use mathlib.Core.Path.{◌≡◌, refl, ap, ◌∙◌}
-use mathlib.Core.Bool.{true, false}
-use mathlib.Core.List.{[], ◌∷◌}
+use mathlib.Core.Bool.{Bool, true, false, cond}
+use mathlib.Core.List.{[], ◌∷◌, Memᴰ}
+use lib.Dec.{ltb}
 use lib.ListN.{get_or}
-use Rattle.laws.proofs.Members.{every_member, flat_member, only_member, count_member}
+use borrow.Author.Tests.{lt-ltb, le-ltb, ltb-true, ltb-false}
+use Rattle.std.specs.Prelude.{None, Some}
+use Rattle.std.proofs.lemmas.Bool.Decides.{nat_tests}
+use Rattle.laws.proofs.Members.{every_member, flat_member, count_member}
+use Rattle.records.specs.Record.{pass}
+use Rattle.records.specs.declared.Pass.{Pass}
 use Rattle.passes.specs.declared.Passes.{Passes}
-use Rattle.passes.specs.Expand.{lcm, cycle_from, job_count, instances}
-use Rattle.passes.specs.Arrays.{pass_in, passes_at, in_order, Timely, AllTimely}
-use Rattle.passes.proofs.Multiples.{next_multiple, lcm_first, lcm_second, lcm_least}
-use Rattle.passes.proofs.Numbers.{passes_from, from_more, from_end, cycle_append, cycle_from_lem}
+use Rattle.passes.specs.Expand.{lcm, cycle_from, within_limit, job_count, instances}
+use Rattle.passes.specs.Timely.{passes_at, in_order, Timely, AllTimely}
+use Rattle.passes.proofs.Multiples.{next_multiple, lcm_from, lcm_first, lcm_second, lcm_least}
+use Rattle.passes.proofs.Numbers.{passes_from, from_none, from_more, from_end, cycle_from_lem}
+
+module _ (n : ℕ) where
+  -- a number of ticks within the limit is kept
+  pub limit_kept : n ≤ 48000 → Some n ≡ within_limit n
+  limit_kept h = rw (le-ltb 48000 n h)
+
+  -- one over it is not
+  pub limit_passed : 48000 < n → None ≡ within_limit n
+  limit_passed h = rw (lt-ltb 48000 n h)
+
+  -- what is kept is the number, which is within the limit
+  pub kept_within : {m : ℕ} → Some m ≡ within_limit n → (m ≡ n) × (n ≤ 48000)
+  kept_within {m} e = step (ltb 48000 n) refl e
+    where
+      step : (t : Bool) → ltb 48000 n ≡ t → Some m ≡ cond t None (Some n) → (m ≡ n) × (n ≤ 48000)
+      step true h e = cc
+      step false h e = (cc, ltb-false 48000 n h)
+
+  -- what is not is over it
+  pub none_over : None ≡ within_limit n → 48000 < n
+  none_over e = step (ltb 48000 n) refl e
+    where
+      step : (t : Bool) → ltb 48000 n ≡ t → None ≡ cond t None (Some n) → 48000 < n
+      step true h e = ltb-true 48000 n h
+      step false h e = cc
 
 module _ (a b m : ℕ) (first : a ∣ m) (up_to_lem : m ≤ lcm a b) where
   -- a multiple up to the least common one that b divides is that one
-  pub multiple_found : 0 < m → m ≤ 48000 → m % b ≡ 0 → m ≡ min 48001 (lcm a b)
-  multiple_found above small e = omega (arith, lcm_least a b m above first (dvd_of_mod-eq-zero b e))
+  pub multiple_found : 0 < m → m ≤ 48000 → m % b ≡ 0 → Some m ≡ within_limit (lcm a b)
+  multiple_found above small e =
+      let same : lcm a b ≡ m = omega (arith, lcm_least a b m above first (dvd_of_mod-eq-zero b e)) in
+      rw same (limit_kept m small)
 
   -- one that b does not divide is not it, and neither is what lies between it and the next
   pub multiple_more : 0 < b → (m % b ≡ 0 → ⊥) → m + a ≤ lcm a b
@@ -30,64 +63,56 @@ pub instances_small : (c t : ℕ) → c ≤ 48000 → c / t ≤ 48000
 instances_small c t small = omega (arith, div-le_self c t)
 
 module _ (passes : Passes) (n : ℕ) where
-  -- the list of the pass with a number where there is none, and where there is one
-  pub at_absent : get_or passes.present n false ≡ false → passes_at passes n ≡ []
+  -- where there is no pass with a number, its list is empty
+  pub at_absent : get_or passes.by_number n None ≡ None → passes_at passes n ≡ []
   unfolding passes_at
   at_absent e = rw e
 
-  pub at_present : get_or passes.present n false ≡ true → passes_at passes n ≡ pass_in passes n ∷ []
-  unfolding passes_at
-  at_present e = rw e
+  module _ {p : Pass} where
+    -- where there is one, it alone stands there
+    pub at_present : get_or passes.by_number n None ≡ Some p → passes_at passes n ≡ pass n p.cost p.period p.phase p.within ∷ []
+    unfolding passes_at
+    at_present e = rw e
 
-  -- a pass's window lies within its period, which is above 0
-  pub timely : AllTimely passes → n < 24 → get_or passes.present n false ≡ true → Timely (pass_in passes n)
-  unfolding AllTimely in_order passes_at
-  timely all h e =
-      every_member Timely all (pass_in passes n)
-      ((flat_member (passes_at passes) _ (pass_in passes n)).1 (n, (count_member 0 24 n).1 (omega arith), (only_member (get_or passes.present n false) (pass_in passes n) (pass_in passes n)).1 (e, refl)))
+    -- a pass's window lies within its period, which is above 0
+    pub timely : AllTimely passes → n < 24 → get_or passes.by_number n None ≡ Some p → Timely p
+    unfolding AllTimely in_order
+    timely all h e =
+        every_member Timely all (pass n p.cost p.period p.phase p.within)
+        ((flat_member (passes_at passes) _ (pass n p.cost p.period p.phase p.within)).1 (n, (count_member 0 24 n).1 (omega arith), rw (at_present e) (Memᴰ.head refl)))
 
-  pub period_above : AllTimely passes → n < 24 → get_or passes.present n false ≡ true → 0 < get_or passes.period n 0
-  unfolding pass_in
-  period_above all h e = (timely all h e).0
+    pub period_above : AllTimely passes → n < 24 → get_or passes.by_number n None ≡ Some p → 0 < p.period
+    period_above all h e = (timely all h e).0
 
   module _ (c : ℕ) where
-    -- a cycle that no pass joins stays as it is
-    pub joined_absent : get_or passes.present n false ≡ false → c ≤ 48000 → c ≡ min 48001 (cycle_from c (passes_at passes n))
-    unfolding cycle_from
-    joined_absent e small = rw (at_absent e) (omega arith)
-
-    -- one that a pass joins is the least common multiple with its period
-    pub joined_present : get_or passes.present n false ≡ true → {r : ℕ} → r ≡ min 48001 (lcm c (get_or passes.period n 0)) → r ≡ min 48001 (cycle_from c (passes_at passes n))
-    unfolding cycle_from pass_in
-    joined_present e h = rw (at_present e) h
-
-    -- a cycle above 0 stays above 0
-    pub joined_above : {r : ℕ} → r ≡ min 48001 (cycle_from c (passes_at passes n)) → 0 < c → 0 < r
-    joined_above h above = omega (arith, cycle_from_lem c (passes_at passes n))
-
     -- the instances of no pass, and of a pass
-    pub instances_absent : get_or passes.present n false ≡ false → 0 ≡ job_count c (passes_at passes n)
+    pub instances_absent : get_or passes.by_number n None ≡ None → 0 ≡ job_count c (passes_at passes n)
     unfolding job_count
     instances_absent e = rw (at_absent e)
 
-    pub instances_present : get_or passes.present n false ≡ true → c / get_or passes.period n 0 ≡ job_count c (passes_at passes n)
-    unfolding job_count instances pass_in
+    pub instances_present : {p : Pass} → get_or passes.by_number n None ≡ Some p → c / p.period ≡ job_count c (passes_at passes n)
+    unfolding job_count instances
     instances_present e = rw (at_present e) (omega arith)
 
-    module _ {r w : ℕ} (h : n < 24) (here : r ≡ min 48001 (cycle_from c (passes_at passes n))) (whole : w ≡ cycle_from c (passes_from passes n)) where
-      -- the cycle from a number on is that from the next one on, from the cycle with the pass of this number
-      split : w ≡ cycle_from (cycle_from c (passes_at passes n)) (passes_from passes (n + 1))
-      split = whole ∙ ap (cycle_from c) (from_more passes n h) ∙ cycle_append c (passes_at passes n) (passes_from passes (n + 1))
+    -- the cycle from a number on is that from the next one on, from the cycle with the pass of this number, if there is one
+    pub cycle_absent : get_or passes.by_number n None ≡ None → n < 24 → cycle_from c (passes_from passes n) ≡ cycle_from c (passes_from passes (n + 1))
+    unfolding cycle_from
+    cycle_absent e h = ap (cycle_from c) (from_more passes n h) ∙ rw (at_absent e)
 
-      -- past the ceiling the whole cycle is past it
-      pub cycle_passed : 48000 < r → 48001 ≡ min 48001 w
-      cycle_passed over = omega (arith, split, cycle_from_lem (cycle_from c (passes_at passes n)) (passes_from passes (n + 1)))
-
-      -- below it the search goes on from there
-      pub cycle_more : r ≤ 48000 → w ≡ cycle_from r (passes_from passes (n + 1))
-      cycle_more under = let same : cycle_from c (passes_at passes n) ≡ r = omega arith in split ∙ ap (λ k. cycle_from k (passes_from passes (n + 1))) same
+    pub cycle_present : {p : Pass} → get_or passes.by_number n None ≡ Some p → n < 24 → cycle_from c (passes_from passes n) ≡ cycle_from (lcm c p.period) (passes_from passes (n + 1))
+    unfolding cycle_from
+    cycle_present e h = ap (cycle_from c) (from_more passes n h) ∙ rw (at_present e)
 
     -- where no number is left, the cycle is found
-    pub cycle_end : {w : ℕ} → 24 ≤ n → c ≤ 48000 → w ≡ cycle_from c (passes_from passes n) → c ≡ min 48001 w
+    pub cycle_end : 24 ≤ n → cycle_from c (passes_from passes n) ≡ c
     unfolding cycle_from
-    cycle_end h small whole = let same = whole ∙ ap (cycle_from c) (from_end passes n h) in omega arith
+    cycle_end h = ap (cycle_from c) (from_end passes n h)
+
+-- what the search for a least common multiple rests on
+pub ruleset multiples_tried = (dvd_refl, dvd-add, lcm_from, multiple_found, multiple_more, nat_tests)
+
+-- what the cycle of all passes rests on
+pub ruleset all_joined = (from_none, cycle_from_lem, cycle_end, period_above, limit_kept, nat_tests)
+
+-- what counting a pass's instances rests on
+pub ruleset instances_counted = (instances_absent, instances_present, instances_small, period_above)

@@ -1,4 +1,4 @@
--- The jobs and links of a table in 01's own words. A job is an instance of a pass, numbered by the jobs before it; its window lies within the cycle;
+-- The jobs and links of a table in plain words. A job is an instance of a pass, numbered by the jobs before it; its window lies within the cycle;
 -- and there is a link exactly where an instance of a flow's source and one of its target start their periods together.
 -- Both are read off the definitions: a job stands among those of its pass, behind those of the passes of lower number, as the passes rise in number.
 use Prim.Native.Nat.{ℕ, zero, suc, ◌+◌, ◌-◌, ◌*◌, ◌/◌, ◌<◌, ◌≤◌}

@@ -7,20 +7,19 @@ use mathlib.Core.Path.{◌≡◌, refl, sym, ap, ap₂, ◌∙◌}
 use mathlib.Core.Bool.{Bool, true, false}
 use mathlib.Core.List.{List, [], ◌∷◌, ◌++◌, Memᴰ}
 use lib.Dec.{ltb}
-use lib.ListN.{get_or}
 use borrow.Author.Tests.{ltb-true, ltb-false}
-use Rattle.laws.specs.Lists.{flat, any}
+use Rattle.laws.specs.Lists.{only, flat, any}
 use Rattle.records.specs.declared.Flow.{Flow}
 use Rattle.records.specs.declared.PassRecord.{PassRecord}
 use Rattle.records.specs.declared.PassRecord.TheVariants.{P, F}
 use Rattle.passes.specs.Judge.{is_pass}
 use Rattle.passes.specs.Expand.{pass_at, passes_in_order, flows_of, cycle_of, instances, first_job, job_count, flow_links}
-use Rattle.passes.specs.Arrays.{passes_of, pass_in, passes_at, in_order}
+use Rattle.passes.specs.Timely.{passes_at, period_at, in_order}
+use Rattle.passes.specs.Arrays.{passes_of}
 use Rattle.passes.specs.Ends.{ends_of, matches, matched, matched_links, record_links, EndsFit, FlowFits}
 use Rattle.passes.proofs.Sound.{Sound, member_order, number_limits, flow_known}
 use Rattle.passes.proofs.Least.{cycle_least}
-use Rattle.passes.proofs.Held.{held_mark, held_pass, held_order}
-use Rattle.passes.proofs.Ceiling.{at_present}
+use Rattle.passes.proofs.Held.{held_at, held_list, held_order}
 use Rattle.passes.proofs.First.{first_order, first_within}
 use Rattle.passes.proofs.Pairs.{links_matched, starts_before}
 
@@ -36,19 +35,16 @@ flows_each (P p ∷ table) = flows_each table
 flows_each (F f ∷ table) = ap (λ fs. f ∷ fs) (flows_each table)
 
 module _ (table : List PassRecord) (sound : Sound table) where
-  -- the pass with a number of the table, as the arrays have it: its period, and how many instances it has
-  pub held_period : (n : ℕ) → any (is_pass n) table ≡ true → get_or (passes_of table).period n 0 ≡ (pass_at table n).period
-  unfolding pass_in
-  held_period n e = ap (λ p. p.period) (held_pass table n (number_limits table sound n e).0)
+  -- the pass with a number of the table, as the array has it: its period, and how many instances it has
+  pub held_period : (n : ℕ) → any (is_pass n) table ≡ true → period_at (passes_of table) n ≡ (pass_at table n).period
+  unfolding period_at
+  held_period n e = rw (held_at table n (number_limits table sound n e).0, e)
 
   pub held_instances : (cycle n : ℕ) → any (is_pass n) table ≡ true → job_count cycle (passes_at (passes_of table) n) ≡ instances cycle (pass_at table n)
   unfolding job_count
   held_instances cycle n e =
-      let low = (number_limits table sound n e).0 in
-      let one = at_present (passes_of table) n (held_mark table n low ∙ e) in
-      let same = ap (λ p. instances cycle p) (held_pass table n low) in
-      let listed = ap (job_count cycle) one in
-      omega arith
+      let one : passes_at (passes_of table) n ≡ pass_at table n ∷ [] = held_list table n (number_limits table sound n e).0 ∙ ap (λ t. only t (pass_at table n)) e in
+      omega (arith, ap (job_count cycle) one)
 
   -- its period divides the cycle
   pub number_divides : (n : ℕ) → any (is_pass n) table ≡ true → (pass_at table n).period ∣ cycle_of table

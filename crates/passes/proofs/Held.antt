@@ -1,37 +1,37 @@
--- The arrays hold the table's passes: what they have at a number below 24 is the pass with that number, so that they list the same passes in the same order.
+-- The array holds the table's passes: what it has at a number below 24 is the pass with that number, so that it lists the same passes in the same order.
 use Prim.Native.Nat.{ℕ, ◌<◌}
 use native.Mathlib.Omega.{arith}
-use mathlib.Core.Path.{◌≡◌, sym, ◌∙◌}
-use mathlib.Core.Bool.{false}
+use mathlib.Core.Path.{◌≡◌, refl, sym, ◌∙◌}
+use mathlib.Core.Bool.{Bool, true, false, cond}
 use mathlib.Core.List.{List}
 use lib.ListN.{get_or}
+use Rattle.std.specs.Prelude.{None, Some}
 use Rattle.laws.specs.Lists.{count, only, any}
 use Rattle.laws.proofs.Members.{count_member, flat_same, member_every}
 use Rattle.laws.proofs.Sizes.{map_keep}
 use Rattle.laws.proofs.Rows.{get_d_row}
 use Rattle.records.specs.declared.PassRecord.{PassRecord}
 use Rattle.passes.specs.Judge.{is_pass}
-use Rattle.passes.specs.Expand.{of_pass, pass_at, passes_in_order}
-use Rattle.passes.specs.Arrays.{passes_of, pass_in, passes_at, in_order, Timely, AllTimely}
+use Rattle.passes.specs.Expand.{pass_at, passes_in_order}
+use Rattle.passes.specs.Timely.{listed, passes_at, in_order, Timely, AllTimely}
+use Rattle.passes.specs.Arrays.{pass_of, passes_of}
 use Rattle.passes.proofs.Sound.{Sound, order_limits}
 
 module _ (table : List PassRecord) where
   module _ (n : ℕ) (h : n < 24) where
-    -- the mark at a number says whether the table has the pass
-    pub held_mark : get_or (passes_of table).present n false ≡ any (is_pass n) table
+    -- at a number stands the pass with it, if the table has one
+    pub held_at : get_or (passes_of table).by_number n None ≡ pass_of table n
     unfolding passes_of
-    held_mark = get_d_row (λ n. any (is_pass n) table) 24 n false h
-
-    -- the values there are the pass's
-    pub held_pass : pass_in (passes_of table) n ≡ pass_at table n
-    unfolding passes_of pass_in pass_at
-    held_pass =
-        rw (get_d_row (of_pass (λ p. p.cost) table) 24 n 0 h, get_d_row (of_pass (λ p. p.period) table) 24 n 0 h, get_d_row (of_pass (λ p. p.phase) table) 24 n 0 h, get_d_row (of_pass (λ p. p.within) table) 24 n 0 h)
+    held_at = get_d_row (pass_of table) 24 n None h
 
     -- so is its list
     pub held_list : passes_at (passes_of table) n ≡ only (any (is_pass n) table) (pass_at table n)
-    unfolding passes_at
-    held_list = rw (held_mark, held_pass)
+    unfolding passes_at pass_at
+    held_list = rw held_at (go (any (is_pass n) table))
+      where
+        go : (t : Bool) → listed n (cond t (Some (pass_at table n)) None) ≡ only t (pass_at table n)
+        go true = refl
+        go false = refl
 
   -- the passes in order are those of the table
   pub held_order : in_order (passes_of table) ≡ passes_in_order table

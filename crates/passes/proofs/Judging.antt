@@ -1,73 +1,59 @@
--- What judging a pass table rests on: the tests of 3 and 5, which look up marks in the arrays in place of records in the table, and the number that the faults found and the sizes come to.
--- Each is by the cases of its definition.
-use Prim.Native.Nat.{ℕ, suc, ◌<◌, ◌≤◌, min}
+-- What judging says of a pass table, in the words of pass tables: its number, what is known of it where none of 1 to 6 holds, and what its size comes to.
+use Prim.Native.Nat.{ℕ, suc, ◌<◌, ◌≤◌}
 use native.Mathlib.Omega.{arith}
 use mathlib.Core.Path.{◌≡◌, refl, sym, ap, ◌∙◌}
-use mathlib.Core.Bool.{Bool, true, false, not, ◌||◌}
+use mathlib.Core.Bool.{Bool, true, false, ◌||◌}
 use mathlib.Core.List.{List, []}
-use mathlib.Core.Option.{none, some}
+use Rattle.std.specs.Prelude.{Option, None, Some, slice_get}
 use lib.Dec.{ltb}
-use lib.ListN.{length, get_or}
-use borrow.Author.Tests.{lt-ltb, le-ltb, ltb-false, eq-eqb, ne_eqb}
-use Rattle.laws.specs.Lists.{any, found}
-use Rattle.laws.proofs.Members.{or_false, false_or}
+use lib.ListN.{length}
+use borrow.Author.Tests.{lt-ltb, le-ltb, ltb-false}
+use Rattle.laws.specs.Lists.{found}
+use Rattle.laws.proofs.Members.{or_false, first_fault_none}
+use Rattle.laws.proofs.Walking.{next_at, next_member}
+use Rattle.records.specs.Outcome.{refuse}
 use Rattle.records.specs.Record.{in_passes}
 use Rattle.records.specs.Table.{bad_length, read_all, unreadable}
 use Rattle.records.specs.declared.Pass.{Pass}
-use Rattle.records.specs.declared.Flow.{Flow}
 use Rattle.records.specs.declared.PassRecord.{PassRecord}
-use Rattle.records.specs.declared.PassRecord.TheVariants.{P, F}
+use Rattle.records.specs.declared.PassRecord.TheVariants.{P}
 use Rattle.records.proofs.Finding.{found_false, refuse_zero, refuse_rest, refuse_first}
-use Rattle.passes.specs.Judge.{is_pass, bad_number, loose_flow, fault3, fault4, fault5}
-use Rattle.passes.specs.Expand.{passes_in_order, flows_of, cycle_from, cycle_of, job_count, too_large}
+use Rattle.passes.specs.Judge.{bad_number, fault3, fault4, fault5}
+use Rattle.passes.specs.Expand.{passes_in_order, flows_of, cycle_from, cycle_of, within_limit, job_count, too_large}
 use Rattle.passes.specs.Call.{pass_table, passes_number}
-use Rattle.passes.specs.Arrays.{passes_of, in_order, AllTimely, JudgedAs}
+use Rattle.passes.specs.Timely.{in_order, AllTimely}
+use Rattle.passes.specs.Arrays.{passes_of}
 use Rattle.passes.specs.declared.Passes.{Passes}
-use Rattle.passes.specs.declared.Judged.{Judged}
-use Rattle.passes.proofs.Sound.{Sound}
-use Rattle.passes.proofs.Held.{held_mark, held_order, held_timely}
-use Rattle.passes.proofs.Arrays.{present_any}
+use Rattle.tables.specs.Rules.{pass_rules}
+use Rattle.tables.specs.Table.{read_number}
+use Rattle.tables.specs.Judge as judge
+use Rattle.passes.proofs.Sound.{Sound, fresh}
+use Rattle.passes.proofs.Held.{held_order, held_timely}
 
-module _ (p : Pass) (before : List PassRecord) where
-  -- 3: a pass number over 23
-  pub over_bad : 23 < p.number → true ≡ bad_number before (P p)
-  over_bad h = rw (lt-ltb 23 p.number h)
+-- a pass table that judging finds within the limits is so
+pub judged_sound : {table : List PassRecord} → judge.Sound pass_rules table → Sound table
+unfolding fault3 fault4 fault5 judge.fault3 judge.fault4 judge.fault5
+judged_sound sound = record { three = sound.three; four = sound.four; five = sound.five }
 
-  -- 3: one that is not is bad exactly when its mark is set
-  pub marked_bad : {t : Bool} → p.number ≤ 23 → t ≡ get_or (passes_of before).present p.number false → t ≡ bad_number before (P p)
-  marked_bad h m = m ∙ held_mark before p.number (omega arith) ∙ rw (le-ltb 23 p.number h)
+-- the number of a table is that of the refusals that both kinds share, and then of its size
+pub judged_number : (bytes : List ℕ) (later : ℕ) → judge.table_number pass_rules in_passes bytes (refuse 6 (too_large (pass_table bytes)) later) ≡ passes_number bytes later
+unfolding judge.table_number read_number judge.fault3 judge.fault4 judge.fault5 passes_number pass_table fault3 fault4 fault5
+judged_number bytes later = refl
 
--- a record that is not at fault by 3 is not so by itself
-pub good_alone : (before : List PassRecord) (r : PassRecord) → bad_number before r ≡ false → bad_number [] r ≡ false
-good_alone before (P p) e = false_or (or_false (ltb 23 p.number) (any (is_pass p.number) before) e).0 refl
-good_alone before (F f) e = refl
+-- where none of the shared refusals holds, the number is that of its size
+pub size_number : (bytes : List ℕ) → ((later : ℕ) → judge.table_number pass_rules in_passes bytes later ≡ later) → {large : Bool} → too_large (pass_table bytes) ≡ large → passes_number bytes 0 ≡ refuse 6 large 0
+size_number bytes e large = sym (judged_number bytes 0) ∙ e _ ∙ ap (λ t. refuse 6 t 0) large
 
--- a pass number that is not bad is below 24
-pub good_number : (p : Pass) → bad_number [] (P p) ≡ false → p.number < 24
-good_number p e = omega (arith, ltb-false 23 p.number (or_false (ltb 23 p.number) false e).0)
-
-module _ (f : Flow) (table : List PassRecord) (three : fault3 table ≡ none) where
-  -- the mark of a number says whether the table has a pass with it
-  known : (n : ℕ) {t : Bool} → t ≡ get_or (passes_of table).present n false → any (is_pass n) table ≡ t
-  known n m = sym (m ∙ present_any table three n)
-
-  -- 5: a flow that names itself
-  pub self_loose : f.source ≡ f.target → true ≡ loose_flow table (F f)
-  self_loose same = rw (eq-eqb f.source f.target same)
-
-  -- 5: one whose source has no mark
-  pub source_loose : {t : Bool} → (f.source ≡ f.target → ⊥) → t ≡ get_or (passes_of table).present f.source false → t ≡ false → true ≡ loose_flow table (F f)
-  source_loose other m missing = rw (ne_eqb f.source f.target other, known f.source m ∙ missing)
-
-  -- 5: of any other flow the mark of its target decides
-  pub target_loose : {t u : Bool} → (f.source ≡ f.target → ⊥) → t ≡ get_or (passes_of table).present f.source false → t ≡ true
-      → u ≡ get_or (passes_of table).present f.target false → not u ≡ loose_flow table (F f)
-  target_loose other m there k = rw (ne_eqb f.source f.target other, known f.source m ∙ there, known f.target k)
+-- a pass that stands in a judged table has a number below 24
+pub pass_fits : (table : List PassRecord) → judge.Sound pass_rules table → (i : ℕ) {r : PassRecord} → slice_get table i ≡ Some r → (p : Pass) → r ≡ P p → p.number < 24
+unfolding fault3
+pass_fits table sound i here p is =
+    (fresh [] table ((first_fault_none bad_number [] 0 table).0 (judged_sound sound).three) p (rw is at (next_member table i (next_at table i here)))).0
 
 -- what a table is of which none of 1 to 6 holds
 pub record Within (bytes : List ℕ) : Type 0 where
   pub one : bad_length bytes ≡ false
-  pub two : unreadable (read_all in_passes bytes) ≡ none
+  pub two : unreadable (read_all in_passes bytes) ≡ None
   pub sound : Sound (pass_table bytes)
   pub ticks : cycle_of (pass_table bytes) ≤ 48000
   pub jobs : job_count (cycle_of (pass_table bytes)) (passes_in_order (pass_table bytes)) ≤ 48
@@ -121,9 +107,9 @@ number_refused bytes n e later =
 
 module _ (table : List PassRecord) {passes : Passes} (held : passes ≡ passes_of table) where
   -- the cycle found of the passes loaded is the table's
-  pub cycle_held : {r : ℕ} → r ≡ min 48001 (cycle_from 1 (in_order passes)) → r ≡ min 48001 (cycle_of table)
+  pub cycle_held : {r : Option ℕ} → r ≡ within_limit (cycle_from 1 (in_order passes)) → r ≡ within_limit (cycle_of table)
   unfolding cycle_of
-  cycle_held h = h ∙ ap (λ ps. min 48001 (cycle_from 1 ps)) (ap in_order held ∙ held_order table)
+  cycle_held h = h ∙ ap (λ ps. within_limit (cycle_from 1 ps)) (ap in_order held ∙ held_order table)
 
   -- each of them has a window within its period
   pub timely_held : Sound table → AllTimely passes
@@ -155,49 +141,3 @@ module _ (table : List PassRecord) where
       pub not_large : length (flows_of table) ≤ 64 → too_large table ≡ false
       unfolding too_large
       not_large h = rw (le-ltb 48000 (cycle_of table) small, le-ltb 48 (job_count (cycle_of table) (passes_in_order table)) few, le-ltb 64 (length (flows_of table)) h)
-
-module _ (bytes : List ℕ) (answer : Judged) where
-  -- an answer whose number is above 0 is right if its number is
-  refused_right : (n : ℕ) → answer.number ≡ suc n → passes_number bytes 0 ≡ suc n → JudgedAs bytes answer
-  refused_right n e f = record { number = e ∙ sym f; passes = λ z. absurd (omega arith); cycle = λ z. absurd (omega arith); jobs = λ z. absurd (omega arith) }
-
-  -- 1
-  pub one_right : bad_length bytes ≡ true → answer.number ≡ 1 → JudgedAs bytes answer
-  unfolding passes_number
-  one_right one e = refused_right 0 e (rw one)
-
-  module _ (one : bad_length bytes ≡ false) where
-    -- 2, where 1 does not hold
-    pub two_right : {place : ℕ} → unreadable (read_all in_passes bytes) ≡ some place → answer.number ≡ 2 → JudgedAs bytes answer
-    unfolding passes_number
-    two_right two e = refused_right 1 e (rw (one, two))
-
-    module _ (two : unreadable (read_all in_passes bytes) ≡ none) where
-      -- 3, where no lower number holds
-      pub three_right : {place : ℕ} → fault3 (pass_table bytes) ≡ some place → answer.number ≡ 3 → JudgedAs bytes answer
-      unfolding passes_number
-      three_right three e = refused_right 2 e (rw (one, two, three))
-
-      module _ (three : fault3 (pass_table bytes) ≡ none) where
-        -- 4, where no lower number holds
-        pub four_right : {place : ℕ} → fault4 (pass_table bytes) ≡ some place → answer.number ≡ 4 → JudgedAs bytes answer
-        unfolding passes_number
-        four_right four e = refused_right 3 e (rw (one, two, three, four))
-
-        module _ (four : fault4 (pass_table bytes) ≡ none) where
-          -- 5, where no lower number holds
-          pub five_right : {place : ℕ} → fault5 (pass_table bytes) ≡ some place → answer.number ≡ 5 → JudgedAs bytes answer
-          unfolding passes_number
-          five_right five e = refused_right 4 e (rw (one, two, three, four, five))
-
-  module _ (one : bad_length bytes ≡ false) (two : unreadable (read_all in_passes bytes) ≡ none) (sound : Sound (pass_table bytes)) where
-    -- 6, where no lower number holds
-    pub six_right : too_large (pass_table bytes) ≡ true → answer.number ≡ 6 → JudgedAs bytes answer
-    unfolding passes_number
-    six_right six e = refused_right 5 e (rw (one, two, sound.three, sound.four, sound.five, six))
-
-    -- 0 and the table's passes, its cycle and how many jobs it has, where none holds
-    pub none_right : too_large (pass_table bytes) ≡ false → answer.number ≡ 0 → answer.passes ≡ passes_of (pass_table bytes) → answer.cycle ≡ cycle_of (pass_table bytes)
-        → answer.jobs ≡ job_count (cycle_of (pass_table bytes)) (passes_in_order (pass_table bytes)) → JudgedAs bytes answer
-    unfolding passes_number
-    none_right six e passes cycle jobs = record { number = e ∙ sym (rw (one, two, sound.three, sound.four, sound.five, six)); passes = λ z. passes; cycle = λ z. cycle; jobs = λ z. jobs }

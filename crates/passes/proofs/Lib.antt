@@ -10,7 +10,6 @@ pub mod Sound
 pub mod Least
 pub mod Held
 pub mod Pairs
-pub mod Records
 pub mod Arrays
 pub mod Judging
 pub mod Flows

@@ -1,6 +1,6 @@
 -- A loop over the pass numbers: the passes from a number on are the one with that number, if there is one, and those from the next number on.
 -- What is counted over passes that stand one behind the other is counted over the first, and gone on with over the others: by induction on the first.
-use Prim.Native.Nat.{ℕ, ◌+◌, ◌-◌, ◌<◌, ◌≤◌}
+use Prim.Native.Nat.{ℕ, suc, ◌+◌, ◌-◌, ◌<◌, ◌≤◌}
 use native.Mathlib.Nat.{zero-add, add_assoc}
 use native.Mathlib.Omega.{arith}
 use mathlib.Core.Path.{◌≡◌, refl, sym, ap, ◌∙◌}
@@ -10,7 +10,7 @@ use Rattle.laws.proofs.Counting.{count_more, count_end}
 use Rattle.records.specs.declared.Pass.{Pass}
 use Rattle.passes.specs.declared.Passes.{Passes}
 use Rattle.passes.specs.Expand.{lcm, cycle_from, instances, instance_of, jobs_from, job_count, first_job}
-use Rattle.passes.specs.Arrays.{passes_at, in_order}
+use Rattle.passes.specs.Timely.{passes_at, in_order}
 use Rattle.passes.proofs.Multiples.{lcm_from}
 
 -- the passes from a number on
@@ -31,11 +31,12 @@ module _ (passes : Passes) where
   pub from_end : (n : ℕ) → 24 ≤ n → passes_from passes n ≡ []
   from_end n h = ap (flat (passes_at passes)) (count_end n 24 h)
 
--- the cycle of two lists of passes is that of the second, from the cycle of the first
-pub cycle_append : (c : ℕ) (ps qs : List Pass) → cycle_from c (ps ++ qs) ≡ cycle_from (cycle_from c ps) qs
-unfolding cycle_from
-cycle_append c [] qs = refl
-cycle_append c (p ∷ ps) qs = cycle_append (lcm c p.period) ps qs
+-- instances are numbered from 1: those after `before` of them are the next one and those after it, and after all of them there are none
+pub count_next : (before times : ℕ) → before < times → count (before + 1) (times - before) ≡ (before + 1) ∷ count (before + 1 + 1) (times - (before + 1))
+count_next before times h = let left : times - before ≡ suc (times - (before + 1)) = omega arith in rw left
+
+pub count_none : (before times : ℕ) → times ≤ before → count (before + 1) (times - before) ≡ []
+count_none before times h = let left : times - before ≡ 0 = omega arith in rw left
 
 -- a cycle is at least what it was before
 pub cycle_from_lem : (c : ℕ) (ps : List Pass) → c ≤ cycle_from c ps
@@ -49,22 +50,9 @@ unfolding job_count
 job_count_append cycle [] qs = sym (zero-add _)
 job_count_append cycle (p ∷ ps) qs = omega (arith, job_count_append cycle ps qs)
 
--- the pass with a number has no more jobs than the passes from it on
-pub job_count_part : (passes : Passes) (cycle n : ℕ) → n < 24 → job_count cycle (passes_at passes n) ≤ job_count cycle (passes_from passes n)
-job_count_part passes cycle n h =
-    omega (arith, ap (job_count cycle) (from_more passes n h), job_count_append cycle (passes_at passes n) (passes_from passes (n + 1)))
-
--- a turn of a loop that counts jobs: those of the pass with this number are counted, and those from the next number on are left
-pub job_count_more : (passes : Passes) (cycle n jobs : ℕ) {r w : ℕ} → n < 24 → r ≡ job_count cycle (passes_at passes n) → w ≡ jobs + job_count cycle (passes_from passes n)
-    → w ≡ jobs + r + job_count cycle (passes_from passes (n + 1))
-job_count_more passes cycle n jobs h here whole =
-    let split = ap (job_count cycle) (from_more passes n h) ∙ job_count_append cycle (passes_at passes n) (passes_from passes (n + 1)) in
-    omega arith
-
--- and its end: all are counted
-pub job_count_end : (passes : Passes) (cycle n jobs : ℕ) {w : ℕ} → 24 ≤ n → w ≡ jobs + job_count cycle (passes_from passes n) → jobs ≡ w
-unfolding job_count
-job_count_end passes cycle n jobs h whole = let none_left = ap (job_count cycle) (from_end passes n h) in omega arith
+-- the jobs of the passes from a number on are those of the pass with it and those of the passes from the next number on
+pub job_count_more : (passes : Passes) (cycle n : ℕ) → n < 24 → job_count cycle (passes_from passes n) ≡ job_count cycle (passes_at passes n) + job_count cycle (passes_from passes (n + 1))
+job_count_more passes cycle n h = ap (job_count cycle) (from_more passes n h) ∙ job_count_append cycle (passes_at passes n) (passes_from passes (n + 1))
 
 -- so with the jobs of the passes of lower number
 pub first_job_append : (cycle : ℕ) (ps qs : List Pass) (n : ℕ) → first_job cycle (ps ++ qs) n ≡ first_job cycle ps n + first_job cycle qs n

@@ -16,18 +16,17 @@ use Rattle.records.specs.declared.Flow.{Flow}
 use Rattle.records.specs.declared.PassRecord.{PassRecord}
 use Rattle.records.specs.declared.PassRecord.TheVariants.{F}
 use Rattle.records.specs.declared.JobRecord.TheVariants.{J, L}
-use Rattle.passes.specs.declared.expand.Ends.{Ends}
 use Rattle.passes.specs.Expand.{pass_at, passes_in_order, flows_of, cycle_of, instances, job_count, jobs_from, flow_links, expanded}
 use Rattle.passes.specs.Call.{pass_table, passes_number}
 use Rattle.passes.specs.Arrays.{passes_of}
-use Rattle.passes.specs.Ends.{ends_of, matches, matched, matched_links}
+use Rattle.passes.specs.Ends.{FlowEnds, ends_of, matches, matched, matched_links}
 use Rattle.passes.proofs.Sound.{Sound, flows_member, flow_known, number_limits}
 use Rattle.passes.proofs.Instances.{length_jobs}
 use Rattle.passes.proofs.Judging.{accepted}
 use Rattle.passes.proofs.Flows.{held_period, held_instances, number_divides, flow_matched, instances_share}
 use Rattle.passes.proofs.Pairs.{starts_before}
 
-module _ (e : Ends) (latency : ℕ) where
+module _ (e : FlowEnds) (latency : ℕ) where
   -- the instances of the source that have a link
   hits : List ℕ
   hits = keep (matches e) (count 1 e.instances)
@@ -36,7 +35,7 @@ module _ (e : Ends) (latency : ℕ) where
   length_hits : length (matched_links e latency) ≡ length hits
   unfolding matched_links matched hits
   length_hits =
-      ap length (sym (map_keep (λ i. link (e.from + (i - 1)) (e.to + (i - 1) * e.source / e.target) latency) (matches e) (count 1 e.instances)))
+      ap length (sym (map_keep (λ i. link (e.from + (i - 1)) (e.to + (i - 1) * e.source_period / e.target_period) latency) (matches e) (count 1 e.instances)))
       ∙ length-map hits _
 
   -- no more than the source has instances
@@ -48,7 +47,7 @@ module _ (e : Ends) (latency : ℕ) where
       omega (arith, length_hits)
 
   -- no more than n, if the target's instances that they are linked with are n at most
-  pub matched_target : (n : ℕ) → 0 < e.source → 0 < e.target → ((i : ℕ) → 1 ≤ i → i ≤ e.instances → (i - 1) * e.source < n * e.target) → length (matched_links e latency) ≤ n
+  pub matched_target : (n : ℕ) → 0 < e.source_period → 0 < e.target_period → ((i : ℕ) → 1 ≤ i → i ≤ e.instances → (i - 1) * e.source_period < n * e.target_period) → length (matched_links e latency) ≤ n
   unfolding hits matches
   matched_target n ps pt inside =
       let few = rising_length 0 n (map start hits) (map_rising start hits (keep_rising (matches e) (count 1 e.instances) (count_rising 1 e.instances)) up)
@@ -57,13 +56,13 @@ module _ (e : Ends) (latency : ℕ) where
     where
       -- which period of the target starts with that of an instance
       start : ℕ → ℕ
-      start i = (i - 1) * e.source / e.target
+      start i = (i - 1) * e.source_period / e.target_period
 
-      hit : (i : ℕ) → Memᴰ i hits → (1 ≤ i) × (i ≤ e.instances) × ((i - 1) * e.source ≡ start i * e.target)
+      hit : (i : ℕ) → Memᴰ i hits → (1 ≤ i) × (i ≤ e.instances) × ((i - 1) * e.source_period ≡ start i * e.target_period)
       hit i m =
           let r = (keep_member (matches e) (count 1 e.instances) i).0 m in
           let b = (count_member 1 e.instances i).0 r.0 in
-          (b.0, omega arith, omega (arith, div-add-mod' ((i - 1) * e.source) e.target, eqb-true ((i - 1) * e.source % e.target) 0 r.1))
+          (b.0, omega arith, omega (arith, div-add-mod' ((i - 1) * e.source_period) e.target_period, eqb-true ((i - 1) * e.source_period % e.target_period) 0 r.1))
 
       below : (i : ℕ) → Memᴰ i hits → start i < n
       below i m = let h = hit i m in (div-lt_iff_lt-mul pt).1 (inside i h.0 h.1)
@@ -73,8 +72,8 @@ module _ (e : Ends) (latency : ℕ) where
           let hi = hit i m in
           let hj = hit j k in
           let earlier : i - 1 < j - 1 = omega arith in
-          let apart : (i - 1) * e.source < (j - 1) * e.source = mul-lt-mul_of_pos_right earlier ps in
-          lt_of_mul-lt-mul_right e.target (omega arith)
+          let apart : (i - 1) * e.source_period < (j - 1) * e.source_period = mul-lt-mul_of_pos_right earlier ps in
+          lt_of_mul-lt-mul_right e.target_period (omega arith)
 
 module _ (table : List PassRecord) (sound : Sound table) (few : job_count (cycle_of table) (passes_in_order table) ≤ 48) where
   -- a flow has at most 24 links

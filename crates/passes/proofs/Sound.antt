@@ -8,7 +8,7 @@ use mathlib.Core.Bool.{true, false, cond, not, ◌||◌}
 use mathlib.Core.Logic.{◌↔◌, ◌⊎◌, inl, inr}
 use mathlib.Core.List.Memᴰ
 use mathlib.Core.List.{List, [], ◌∷◌, Memᴰ}
-use mathlib.Core.Option.{none}
+use Rattle.std.specs.Prelude.{None}
 use borrow.Author.Tests.{eqb-true, eqb-false, ltb-false, eq-eqb, not-false}
 use lib.Dec.{eqb, ltb}
 use Rattle.laws.specs.Lists.{count, any, keep}
@@ -19,13 +19,13 @@ use Rattle.records.specs.declared.PassRecord.{PassRecord}
 use Rattle.records.specs.declared.PassRecord.TheVariants.{P, F}
 use Rattle.passes.specs.Judge.{is_pass, bad_number, bad_value, loose_flow, fault3, fault4, fault5}
 use Rattle.passes.specs.Expand.{of_pass, pass_at, passes_in_order, flows_of}
-use Rattle.passes.specs.Arrays.{Timely}
+use Rattle.passes.specs.Timely.{Timely}
 
 -- none of 3, 4 and 5 holds of a pass table
 pub record Sound (table : List PassRecord) : Type 0 where
-  pub three : fault3 table ≡ none
-  pub four : fault4 table ≡ none
-  pub five : fault5 table ≡ none
+  pub three : fault3 table ≡ None
+  pub four : fault4 table ≡ None
+  pub five : fault5 table ≡ None
 
 -- a P record is not an F record
 pub pass_not_flow : {p : Pass} {f : Flow} → P p ≡ F f → ⊥

@@ -1,61 +1,30 @@
--- A table's passes as the code holds them: arrays by pass number.
-use Rattle.std.specs.Prelude.{ℕ, ◌+◌, ◌*◌, ◌<◌, ◌≤◌, ◌≡◌, false, List, map, length, get_or}
+-- A table's passes as the code holds them: by pass number.
+use Rattle.std.specs.Prelude.{ℕ, ◌*◌, ◌≡◌, cond, List, map, length, Option, None, Some}
 use Rattle.std.proofs.Math.Seq.{paste}
-use Rattle.laws.specs.Lists.{any, count, only, flat, Every}
-use Rattle.records.specs.Record.{pass, job_bytes}
+use Rattle.laws.specs.Lists.{any, count}
+use Rattle.records.specs.Record.{job_bytes}
 use Rattle.records.specs.Table.{encode}
 use Rattle.records.specs.declared.Pass.{Pass}
 use Rattle.records.specs.declared.PassRecord.{PassRecord}
 use Rattle.records.specs.declared.JobRecord.{JobRecord}
 use Rattle.passes.specs.Judge.{is_pass}
-use Rattle.passes.specs.Expand.{of_pass, passes_in_order, cycle_of, job_count}
+use Rattle.passes.specs.Expand.{pass_at, cycle_of}
 use Rattle.passes.specs.Call.{pass_table, passes_number}
 use Rattle.passes.specs.declared.Passes.{Passes}
-use Rattle.passes.specs.declared.Judged.{Judged}
 
--- the passes by number: 0 where there is none
+-- the pass with a number, if the table has one
+abbrev pub pass_of : List PassRecord → ℕ → Option Pass
+pass_of table n = cond (any (is_pass n) table) (Some (pass_at table n)) None
+
+-- the passes by number
 unfoldable pub passes_of : List PassRecord → Passes
-passes_of table = record {
-  present = map (λ n. any (is_pass n) table) (count 0 24);
-  cost = map (of_pass (λ p. p.cost) table) (count 0 24);
-  period = map (of_pass (λ p. p.period) table) (count 0 24);
-  phase = map (of_pass (λ p. p.phase) table) (count 0 24);
-  within = map (of_pass (λ p. p.within) table) (count 0 24);
-}
-
--- the pass with a number
-unfoldable pub pass_in : Passes → ℕ → Pass
-pass_in passes n =
-    pass n (get_or passes.cost n 0) (get_or passes.period n 0) (get_or passes.phase n 0) (get_or passes.within n 0)
-
--- the pass with a number, if there is one
-unfoldable pub passes_at : Passes → ℕ → List Pass
-passes_at passes n = only (get_or passes.present n false) (pass_in passes n)
-
--- the passes by rising number
-unfoldable pub in_order : Passes → List Pass
-in_order passes = flat (passes_at passes) (count 0 24)
-
--- what judging a table's bytes answers: the lowest of 1 to 6 that holds, or 0 and then its passes, its cycle and how many jobs it has
-pub record JudgedAs (bytes : List ℕ) (answer : Judged) : Type 0 where
-  pub number : answer.number ≡ passes_number bytes 0
-  pub passes : answer.number ≡ 0 → answer.passes ≡ passes_of (pass_table bytes)
-  pub cycle : answer.number ≡ 0 → answer.cycle ≡ cycle_of (pass_table bytes)
-  pub jobs : answer.number ≡ 0 → answer.jobs ≡ job_count (cycle_of (pass_table bytes)) (passes_in_order (pass_table bytes))
+passes_of table = record { by_number = map (pass_of table) (count 0 24) }
 
 -- passes and a cycle are those of a table that none of 1 to 6 refuses
 pub record Accepted (bytes : List ℕ) (held : Passes) (ticks : ℕ) : Type 0 where
   pub number : passes_number bytes 0 ≡ 0
   pub passes : held ≡ passes_of (pass_table bytes)
   pub cycle : ticks ≡ cycle_of (pass_table bytes)
-
--- a pass with a period, which its window lies within
-abbrev pub Timely : Pass → Type 0
-Timely p = (0 < p.period) × (p.phase + p.within ≤ p.period)
-
--- all passes are such
-unfoldable pub AllTimely : Passes → Type 0
-AllTimely passes = Every Timely (in_order passes)
 
 -- an output with these records from a place on
 abbrev pub written_at : List ℕ → ℕ → List JobRecord → List ℕ

@@ -1,5 +1,5 @@
 -- From passes to jobs: the cycle, the instances, the jobs and links that a pass table expands to.
-use Rattle.std.specs.Prelude.{ℕ, zero, suc, ◌+◌, ◌-◌, ◌*◌, ◌/◌, ◌%◌, Bool, true, false, cond, ◌||◌, List, [], ◌∷◌, ◌++◌, map, length, eqb, ltb}
+use Rattle.std.specs.Prelude.{ℕ, zero, suc, ◌+◌, ◌-◌, ◌*◌, ◌/◌, ◌%◌, Bool, true, false, cond, ◌||◌, List, [], ◌∷◌, ◌++◌, map, length, eqb, ltb, Option, None, Some}
 use Rattle.laws.specs.Lists.{count, total, only, any, keep, flat}
 use Rattle.records.specs.Record.{pass, job, link}
 use Rattle.records.specs.declared.Pass.{Pass}
@@ -50,6 +50,10 @@ cycle_from c (p ∷ ps) = cycle_from (lcm c p.period) ps
 -- "The cycle is the least common multiple of all periods; for no passes it is 1"
 unfoldable pub cycle_of : List PassRecord → ℕ
 cycle_of table = cycle_from 1 (passes_in_order table)
+
+-- a number of ticks, where it is at most 48,000
+abbrev pub within_limit : ℕ → Option ℕ
+within_limit ticks = cond (ltb 48000 ticks) None (Some ticks)
 
 -- "A pass with period T has cycle / T instances"
 unfoldable pub instances : ℕ → Pass → ℕ

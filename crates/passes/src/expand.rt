@@ -1,250 +1,219 @@
 // Expanding an accepted pass table: its jobs, and the links of its flows.
-ghost use Rattle.std.specs.Prelude.{◌≡◌, map, true, ℕ, ◌+◌, ◌-◌, ◌*◌, ◌<◌, ◌≤◌, length, get_or};
+ghost use Rattle.std.specs.Prelude.{◌≡◌, map, ℕ, ◌+◌, ◌*◌, ◌<◌, ◌≤◌, length};
 ghost use Rattle.laws.specs.Lists.{count, flat};
 ghost use Rattle.records.specs.Record.{job_bytes};
 ghost use Rattle.records.specs.Table.{encode};
 ghost use Rattle.records.specs.Outcome.{overwrite};
 ghost use Rattle.records.specs.declared.JobRecord.TheVariants.{J, L};
-ghost use Rattle.passes.specs.Expand.{instance_of, jobs_from, job_count, first_job, flow_links, flows_of};
+ghost use Rattle.passes.specs.Expand.{instance_of, jobs_from, job_count, flow_links, flows_of};
 ghost use Rattle.passes.specs.Call.{pass_table};
-ghost use Rattle.passes.specs.Arrays.{pass_in, passes_at, in_order, AllTimely, Accepted, written_at};
+ghost use Rattle.passes.specs.Timely.{passes_at, in_order};
+ghost use Rattle.passes.specs.Arrays.{written_at};
 ghost use Rattle.passes.specs.Ends.{ends_of, matches, matched, matched_links, record_links, EndsFit, FlowFits};
 
-use crate::Passes;
-use crate::cycle::instances_of;
-use records::read::read_pass;
-use records::write::{write_job, write_link};
-use records::{Flow, Job, Link, Pass, PassRead, PassRecord};
+use crate::cycle::Plan;
+use crate::judge::Accepted;
+use records::write::write;
+use records::{Flow, Job, JobRecord, Link, Pass, PassRecord};
+use std::marker::Model;
 
-// What the links of a flow are made of: its source's and its target's first job and period, and how many instances the source has.
-#[derive(Clone, Copy)]
-pub struct Ends {
-    pub from: usize,
-    pub to: usize,
-    pub source: usize,
-    pub target: usize,
-    pub instances: usize,
-}
-
-// The pass with a number.
-fn pass_of(passes: Passes, number: usize) -> Pass
-    requires { number < 24 }
-    ensures { result ≡ pass_in passes number }
+// The job of a pass's instance that `before` others come before; the job of the first one is numbered `first`.
+#[tactic(auto, unfolding(crate::specs::Expand::instance_of))]
+fn instance_of(pass: Pass, first: usize, before: usize) -> Job
+    requires { (first + before < 48) × ((before + 1) * pass.period ≤ 48000) × (pass.phase + pass.within ≤ pass.period) }
+    ensures { result ≡ instance_of pass first (before + 1) }
 {
-    Pass {
-        number: number as u8,
-        cost: passes.cost[number],
-        period: passes.period[number],
-        phase: passes.phase[number],
-        within: passes.within[number],
-    }
-}
-
-// The job of instance k of a pass, whose first job is numbered `first`.
-fn instance_of(pass: Pass, first: usize, k: usize) -> Job
-    requires { (1 ≤ k) × (first + k ≤ 48) × (k * pass.period ≤ 48000) × (pass.phase + pass.within ≤ pass.period) }
-    ensures { result ≡ instance_of pass first k }
-{
-    let before = k - 1;
-    let release = before * (pass.period as usize) + pass.phase as usize;
+    let release = before * usize::from(pass.period) + usize::from(pass.phase);
     Job {
         number: (first + before) as u8,
         cost: pass.cost,
         release: release as u16,
-        deadline: (release + pass.within as usize) as u16,
+        deadline: (release + usize::from(pass.within)) as u16,
     }
 }
 
 // The jobs of the first `times` instances of a pass, each at the place of its number.
+#[tactic(auto, using(crate::proofs::Instances::instances_written))]
 fn write_instances(out: &mut [u8], first: usize, pass: Pass, times: usize)
     requires { (12 * (first + times) ≤ length out.old) × (first + times ≤ 48) × (times * pass.period ≤ 48000) × (pass.phase + pass.within ≤ pass.period) }
     ensures { out.new ≡ written_at out.old first (map J (map (instance_of pass first) (count 1 times))) }
 {
-    let mut k: usize = 1;
-    while k <= times {
-        write_job(out, first + (k - 1), instance_of(pass, first, k));
-        k += 1;
+    for before in 0..times {
+        write(
+            out,
+            first + before,
+            JobRecord::J(instance_of(pass, first, before)),
+        );
     }
 }
 
 // The jobs of the pass with a number, if there is one, from the number `first` on: the number of the next job.
-fn write_pass(out: &mut [u8], first: usize, passes: Passes, cycle: u32, number: usize) -> usize
-    requires number_bound { (number < 24) × (cycle ≤ 48000) × AllTimely passes }
-    requires number_bound_2 { (first + job_count cycle (passes_at passes number) ≤ 48) × (12 * (first + job_count cycle (passes_at passes number)) ≤ length out.old) }
-    ensures value { result ≡ first + job_count cycle (passes_at passes number) }
-    ensures out_after { out.new ≡ written_at out.old first (map J (jobs_from cycle first (passes_at passes number))) }
+#[tactic(auto, using(crate::proofs::Instances::pass_written))]
+fn write_pass(out: &mut [u8], first: usize, plan: &Plan, number: usize) -> usize
+    requires known { number < 24 }
+    requires room { let jobs = job_count plan.now.cycle (passes_at plan.now.passes number) in (first + jobs ≤ 48) × (12 * (first + jobs) ≤ length out.old) }
+    ensures value { result ≡ first + job_count plan.now.cycle (passes_at plan.now.passes number) }
+    ensures out_after { out.new ≡ written_at out.old first (map J (jobs_from plan.now.cycle first (passes_at plan.now.passes number))) }
 {
-    if !passes.present[number] {
+    let Some(pass) = plan.passes.by_number[number] else {
         return first;
-    }
-    let times = instances_of(passes, cycle, number);
-    write_instances(out, first, pass_of(passes, number), times);
+    };
+    let times = plan.instances_of(number);
+    write_instances(out, first, pass, times);
     first + times
 }
 
 // The jobs of all passes.
-pub fn write_jobs(out: &mut [u8], passes: Passes, cycle: u32)
-    requires cycle_bound { (cycle ≤ 48000) × (job_count cycle (in_order passes) ≤ 48) × AllTimely passes }
-    requires passes_in_bounds { 12 * job_count cycle (in_order passes) ≤ length out.old }
-    ensures { out.new ≡ overwrite (encode job_bytes (map J (jobs_from cycle 0 (in_order passes)))) out.old }
+#[tactic(auto, using(crate::proofs::Instances::jobs_written))]
+pub fn write_jobs(out: &mut [u8], plan: &Plan)
+    requires few { job_count plan.now.cycle (in_order plan.now.passes) ≤ 48 }
+    requires room { 12 * job_count plan.now.cycle (in_order plan.now.passes) ≤ length out.old }
+    ensures { out.new ≡ overwrite (encode job_bytes (map J (jobs_from plan.now.cycle 0 (in_order plan.now.passes)))) out.old }
 {
-    let mut first: usize = 0;
-    let mut number: usize = 0;
-    while number < 24 {
-        first = write_pass(out, first, passes, cycle, number);
-        number += 1;
+    let mut first = 0;
+    for number in 0..24 {
+        first = write_pass(out, first, plan, number);
     }
 }
 
-// The number of the first job of the pass with a number: as many jobs stand before it as the passes of lower number have.
-fn first_job(passes: Passes, cycle: u32, number: usize) -> usize
-    requires { (number ≤ 24) × (cycle ≤ 48000) × AllTimely passes }
-    ensures { result ≡ first_job cycle (in_order passes) number }
-{
-    let mut first: usize = 0;
-    let mut lower: usize = 0;
-    while lower < number {
-        first += instances_of(passes, cycle, lower);
-        lower += 1;
+// What the links of a flow are made of: its source's and its target's first job and period, and how many instances the source has.
+// The jobs that the links name are numbered below 48, and no instance is released past 48,000 ticks.
+#[derive(Drop)]
+struct Ends {
+    from: usize,
+    to: usize,
+    source_period: usize,
+    target_period: usize,
+    instances: usize,
+}
+
+impl Model for Ends {
+    ghost use Rattle.passes.specs.Ends.{FlowEnds, EndsFit};
+
+    ghost Value = { FlowEnds };
+
+    ghost view = { λ e. record { from = e.from; to = e.to; source_period = e.source_period; target_period = e.target_period; instances = e.instances } };
+
+    ghost invariant = { λ e. EndsFit (record { from = e.from; to = e.to; source_period = e.source_period; target_period = e.target_period; instances = e.instances }) };
+}
+
+impl Ends {
+    // The period of the source's instance that `before` others come before starts with a period of the target.
+    #[tactic(auto, unfolding(crate::specs::Ends::matches))]
+    fn is_matched(&self, before: usize) -> bool
+        requires { before < self.now.instances }
+        ensures { result ≡ matches self.now (before + 1) }
+    {
+        before * self.source_period % self.target_period == 0
     }
-    first
+
+    // How many links the flow has.
+    fn count(&self) -> usize
+        ensures upper_bound { result ≤ 48 }
+        ensures by_index { (latency : ℕ) → result ≡ length (matched_links self.now latency) }
+    {
+        (0..self.instances)
+            .filter(|before| self.is_matched(*before))
+            .count()
+    }
+
+    // The link of that instance at a place, if it has one: the next place.
+    #[tactic(auto, using(crate::proofs::Matches::match_written))]
+    fn write_matched(&self, out: &mut [u8], place: usize, latency: u16, before: usize) -> usize
+        requires inside { before < self.now.instances }
+        requires room { 12 * (place + length (matched self.now latency (before + 1))) ≤ length out.old }
+        ensures value { result ≡ place + length (matched self.now latency (before + 1)) }
+        ensures out_after { out.new ≡ written_at out.old place (map L (matched self.now latency (before + 1))) }
+    {
+        if !self.is_matched(before) {
+            return place;
+        }
+        let link = Link {
+            from: (self.from + before) as u8,
+            to: (self.to + before * self.source_period / self.target_period) as u8,
+            latency,
+        };
+        write(out, place, JobRecord::L(link));
+        place + 1
+    }
+
+    // The links of the flow from a place on: the next place.
+    #[tactic(auto, using(crate::proofs::Matches::links_written))]
+    fn write(&self, out: &mut [u8], place: usize, latency: u16) -> usize
+        requires { 12 * (place + length (matched_links self.now latency)) ≤ length out.old }
+        ensures value { result ≡ place + length (matched_links self.now latency) }
+        ensures out_after { out.new ≡ written_at out.old place (map L (matched_links self.now latency)) }
+    {
+        let mut next = place;
+        for before in 0..self.instances {
+            next = self.write_matched(out, next, latency, before);
+        }
+        next
+    }
 }
 
 // What the links of a flow are made of.
-fn ends_of(passes: Passes, cycle: u32, flow: Flow) -> Ends
-    requires { (flow.source < 24) × (flow.target < 24) × (cycle ≤ 48000) × AllTimely passes }
-    ensures { result ≡ ends_of passes cycle flow }
+#[tactic(auto, unfolding(crate::specs::Ends::ends_of))]
+fn ends_of(plan: &Plan, flow: Flow) -> Ends
+    requires { (flow.source < 24) × (flow.target < 24) × EndsFit (ends_of plan.now.passes plan.now.cycle flow) }
+    ensures { result ≡ ends_of plan.now.passes plan.now.cycle flow }
 {
-    let source = flow.source as usize;
-    let target = flow.target as usize;
+    let source = usize::from(flow.source);
+    let target = usize::from(flow.target);
     Ends {
-        from: first_job(passes, cycle, source),
-        to: first_job(passes, cycle, target),
-        source: passes.period[source] as usize,
-        target: passes.period[target] as usize,
-        instances: instances_of(passes, cycle, source),
+        from: plan.first_job(source),
+        to: plan.first_job(target),
+        source_period: plan.period_of(source),
+        target_period: plan.period_of(target),
+        instances: plan.instances_of(source),
     }
-}
-
-// The period of instance i of the source starts with a period of the target.
-fn is_matched(ends: Ends, i: usize) -> bool
-    requires { (1 ≤ i) × (i ≤ ends.instances) × EndsFit ends }
-    ensures { result ≡ matches ends i }
-{
-    (i - 1) * ends.source % ends.target == 0
-}
-
-// How many links a flow has.
-fn count_matched(ends: Ends) -> usize
-    requires { EndsFit ends }
-    ensures upper_bound { result ≤ 48 }
-    ensures by_index { (latency : ℕ) → result ≡ length (matched_links ends latency) }
-{
-    let mut links: usize = 0;
-    let mut i: usize = 1;
-    while i <= ends.instances {
-        if is_matched(ends, i) {
-            links += 1;
-        }
-        i += 1;
-    }
-    links
 }
 
 // How many links the flow of a record has.
-fn count_record(passes: Passes, cycle: u32, r: PassRecord) -> usize
-    requires { (cycle ≤ 48000) × AllTimely passes × FlowFits passes cycle r }
-    ensures { (result ≡ length (record_links passes cycle r)) × (result ≤ 48) }
+fn count_record(plan: &Plan, r: PassRecord) -> usize
+    requires { FlowFits plan.now.passes plan.now.cycle r }
+    ensures { (result ≡ length (record_links plan.now.passes plan.now.cycle r)) × (result ≤ 48) }
 {
     match r {
         PassRecord::P(_) => 0,
-        PassRecord::F(f) => count_matched(ends_of(passes, cycle, f)),
+        PassRecord::F(f) => ends_of(plan, f).count(),
     }
 }
 
 // How many links the flows of a table have.
-pub fn count_links(s: &[u8], passes: Passes, cycle: u32) -> usize
-    requires { Accepted s.now passes cycle }
-    ensures { result ≡ length (flat (flow_links (pass_table s.now) cycle) (flows_of (pass_table s.now))) }
+pub fn count_links(accepted: &Accepted) -> usize
+    ensures { result ≡ length (flat (flow_links (pass_table accepted.now.judged.table.bytes.now) accepted.now.plan.cycle) (flows_of (pass_table accepted.now.judged.table.bytes.now))) }
 {
-    let n = s.len() / 12;
-    let mut links: usize = 0;
-    let mut i: usize = 0;
-    while i < n {
-        let PassRead::Record(r) = read_pass(s, i) else {
-            return links;
-        };
-        links += count_record(passes, cycle, r);
-        i += 1;
+    let table = &accepted.judged.table;
+    let mut links = 0;
+    for place in 0..table.count() {
+        links += count_record(&accepted.plan, table.at(place));
     }
     links
 }
 
-// The link of instance i of the source at a place, if it has one: the next place.
-fn write_matched(out: &mut [u8], place: usize, ends: Ends, latency: u16, i: usize) -> usize
-    requires le_i { (1 ≤ i) × (i ≤ ends.instances) × EndsFit ends }
-    requires i_in_bounds { 12 * (place + length (matched ends latency i)) ≤ length out.old }
-    ensures value { result ≡ place + length (matched ends latency i) }
-    ensures out_after { out.new ≡ written_at out.old place (map L (matched ends latency i)) }
-{
-    if !is_matched(ends, i) {
-        return place;
-    }
-    let before = i - 1;
-    write_link(
-        out,
-        place,
-        Link {
-            from: (ends.from + before) as u8,
-            to: (ends.to + before * ends.source / ends.target) as u8,
-            latency,
-        },
-    );
-    place + 1
-}
-
-// The links of a flow from a place on: the next place.
-fn write_flow(out: &mut [u8], place: usize, ends: Ends, latency: u16) -> usize
-    requires { EndsFit ends × (12 * (place + length (matched_links ends latency)) ≤ length out.old) }
-    ensures value { result ≡ place + length (matched_links ends latency) }
-    ensures out_after { out.new ≡ written_at out.old place (map L (matched_links ends latency)) }
-{
-    let mut next = place;
-    let mut i: usize = 1;
-    while i <= ends.instances {
-        next = write_matched(out, next, ends, latency, i);
-        i += 1;
-    }
-    next
-}
-
 // The links of a record's flow from a place on: the next place.
-fn write_record(out: &mut [u8], place: usize, passes: Passes, cycle: u32, r: PassRecord) -> usize
-    requires cycle_bound { (cycle ≤ 48000) × AllTimely passes × FlowFits passes cycle r }
-    requires r_in_bounds { 12 * (place + length (record_links passes cycle r)) ≤ length out.old }
-    ensures value { result ≡ place + length (record_links passes cycle r) }
-    ensures out_after { out.new ≡ written_at out.old place (map L (record_links passes cycle r)) }
+#[tactic(auto, using(crate::proofs::Matches::flow_links_lem, crate::proofs::Matches::pass_links))]
+fn write_record(out: &mut [u8], place: usize, plan: &Plan, r: PassRecord) -> usize
+    requires fits { FlowFits plan.now.passes plan.now.cycle r }
+    requires room { 12 * (place + length (record_links plan.now.passes plan.now.cycle r)) ≤ length out.old }
+    ensures value { result ≡ place + length (record_links plan.now.passes plan.now.cycle r) }
+    ensures out_after { out.new ≡ written_at out.old place (map L (record_links plan.now.passes plan.now.cycle r)) }
 {
     match r {
         PassRecord::P(_) => place,
-        PassRecord::F(f) => write_flow(out, place, ends_of(passes, cycle, f), f.latency),
+        PassRecord::F(f) => ends_of(plan, f).write(out, place, f.latency),
     }
 }
 
 // The links of all flows of a table, flow by flow as they stand in it.
-pub fn write_links(out: &mut [u8], s: &[u8], passes: Passes, cycle: u32)
-    requires accepted { Accepted s.now passes cycle }
-    requires s_in_bounds { 12 * length (flat (flow_links (pass_table s.now) cycle) (flows_of (pass_table s.now))) ≤ length out.old }
-    ensures { out.new ≡ overwrite (encode job_bytes (map L (flat (flow_links (pass_table s.now) cycle) (flows_of (pass_table s.now))))) out.old }
+pub fn write_links(out: &mut [u8], accepted: &Accepted)
+    requires { 12 * length (flat (flow_links (pass_table accepted.now.judged.table.bytes.now) accepted.now.plan.cycle) (flows_of (pass_table accepted.now.judged.table.bytes.now))) ≤ length out.old }
+    ensures { out.new ≡ overwrite (encode job_bytes (map L (flat (flow_links (pass_table accepted.now.judged.table.bytes.now) accepted.now.plan.cycle) (flows_of (pass_table accepted.now.judged.table.bytes.now))))) out.old }
 {
-    let n = s.len() / 12;
-    let mut place: usize = 0;
-    let mut i: usize = 0;
-    while i < n {
-        let PassRead::Record(r) = read_pass(s, i) else {
-            return;
-        };
-        place = write_record(out, place, passes, cycle, r);
-        i += 1;
+    let table = &accepted.judged.table;
+    let mut next = 0;
+    for place in 0..table.count() {
+        next = write_record(out, next, &accepted.plan, table.at(place));
     }
 }

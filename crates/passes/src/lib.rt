@@ -1,4 +1,4 @@
-// A pass table: read and judged, its passes in arrays by number, its cycle, and the jobs and links that it expands to.
+// A pass table: read and judged, its passes by number, its cycle, and the jobs and links that it expands to.
 
 #![tactic(auto)]
 
@@ -7,21 +7,10 @@ pub mod expand;
 pub mod judge;
 pub mod load;
 
-// The passes of a table by number: whether there is one, and what its record says.
+use records::Pass;
+
+// The passes of a table by number: what the record of each says, where there is one.
 #[derive(Clone, Copy)]
 pub struct Passes {
-    pub present: [bool; 24],
-    pub cost: [u16; 24],
-    pub period: [u16; 24],
-    pub phase: [u16; 24],
-    pub within: [u16; 24],
-}
-
-// What judging a table answers: the lowest of 1 to 6 that holds, or 0, and then its passes, its cycle and how many jobs it has.
-#[derive(Clone, Copy)]
-pub struct Judged {
-    pub number: u32,
-    pub passes: Passes,
-    pub cycle: u32,
-    pub jobs: usize,
+    pub by_number: [Option<Pass>; 24],
 }

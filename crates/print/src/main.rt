@@ -7,7 +7,7 @@ use argilosco::schedule::argilosco_schedule;
 use std::io;
 use std::io::Read;
 
-// The budget that 01 gives the program.
+// The program's budget.
 const BUDGET: u32 = 100000;
 
 // The most bytes that are read: any table over 49,152 bytes is refused by 1.
@@ -32,19 +32,14 @@ fn opened_line(rt: &impl Print, n: u32) -> io::Result<()> {
     println!(rt; "opened {n}")
 }
 
-// The 16-bit number that two bytes hold, the low one first.
-fn word(low: u8, high: u8) -> u32 {
-    low as u32 + 256 * (high as u32)
-}
-
 // Writes the line `job start end` of the slot at a place.
 fn slot_line(rt: &impl Print, slots: &[u8; 576], place: usize) -> io::Result<()>
     requires { place < 48 }
 {
     let at = 12 * place;
     let job = slots[at + 1];
-    let start = word(slots[at + 2], slots[at + 3]);
-    let end = word(slots[at + 4], slots[at + 5]);
+    let start = u16::from_le_bytes([slots[at + 2], slots[at + 3]]);
+    let end = u16::from_le_bytes([slots[at + 4], slots[at + 5]]);
     println!(rt; "{job} {start} {end}")
 }
 

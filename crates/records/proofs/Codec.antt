@@ -6,22 +6,18 @@ use native.Mathlib.Omega.{arith}
 use mathlib.Core.Path.{◌≡◌, refl, ap, ◌∙◌}
 use mathlib.Core.Bool.{true, cond, ◌&&◌, and-eq-true_iff}
 use mathlib.Core.List.{List, map}
-use mathlib.Core.Option.{Option, none, some}
+use Rattle.std.specs.Prelude.{Option, None, Some}
 use borrow.Author.Tests.{eqb-true}
 use lib.Dec.{eqb}
 use lib.ListN.{length, get_or}
 use Rattle.laws.specs.Lists.{Every, count}
 use Rattle.laws.proofs.Lists.{Same, same, all_every, every_weaker, every_count, map_count, Gives, gives_none, gives_some, gives_cond}
-use Rattle.records.specs.Bytes.{Bytes, zeros}
+use Rattle.records.specs.Bytes.{Bytes, zeros, twelve}
 use Rattle.records.specs.Record.{kind, in_passes, in_jobs, in_schedule, read_pass, read_flow, read_job, read_link, read_slot}
 use Rattle.records.specs.Record.{pass_bytes, job_bytes, slot_bytes, PassFits, JobFits, SlotFits}
 use Rattle.records.specs.declared.PassRecord.TheVariants.{P, F}
 use Rattle.records.specs.declared.JobRecord.TheVariants.{J, L}
 use Rattle.records.proofs.Words.{word_pair}
-
--- the twelve bytes that a reader looks at
-abbrev pub twelve : (ℕ → ℕ) → List ℕ
-twelve b = map b (count 0 12)
 
 -- a list of bytes as a reader looks at it
 abbrev pub lookup : List ℕ → ℕ → ℕ
@@ -34,11 +30,11 @@ pub record Codec {A : Type 0} (read : (ℕ → ℕ) → Option A) (write : A →
   -- what is written of a record that fits are bytes
   pub written : (r : A) → Fits r → Bytes (write r)
   -- a record that was written is read
-  pub read_written : (r : A) → Fits r → (b : ℕ → ℕ) → ((k : ℕ) → k < 12 → b k ≡ get_or (write r) k 0) → read b ≡ some r
+  pub read_written : (r : A) → Fits r → (b : ℕ → ℕ) → ((k : ℕ) → k < 12 → b k ≡ get_or (write r) k 0) → read b ≡ Some r
   -- a record that was read is written with the bytes that it was read from
-  pub written_read : (b : ℕ → ℕ) (r : A) → ((k : ℕ) → k < 12 → b k < 256) → read b ≡ some r → write r ≡ map b (count 0 12)
+  pub written_read : (b : ℕ → ℕ) (r : A) → ((k : ℕ) → k < 12 → b k < 256) → read b ≡ Some r → write r ≡ map b (count 0 12)
   -- a record that was read fits
-  pub fits : (b : ℕ → ℕ) (r : A) → ((k : ℕ) → k < 12 → b k < 256) → read b ≡ some r → Fits r
+  pub fits : (b : ℕ → ℕ) (r : A) → ((k : ℕ) → k < 12 → b k < 256) → read b ≡ Some r → Fits r
 
 -- a record fits, and is written with a reader's bytes
 abbrev pub Restores : {A : Type 0} → (A → List ℕ) → (A → Type 0) → (ℕ → ℕ) → A → Type 0
@@ -53,7 +49,7 @@ pub codec : {A : Type 0} (read : (ℕ → ℕ) → Option A) (write : A → List
     → (local : (b : ℕ → ℕ) → read b ≡ read (lookup (twelve b)))
     → (sized : (r : A) → length (write r) ≡ 12)
     → (written : (r : A) → Fits r → Bytes (write r))
-    → (back : (r : A) → Fits r → read (lookup (write r)) ≡ some r)
+    → (back : (r : A) → Fits r → read (lookup (write r)) ≡ Some r)
     → (restores : (b : ℕ → ℕ) → Bytes (twelve b) → Gives (Restores write Fits b) (read b))
     → Codec read write Fits
 codec read write Fits local sized written back restores =
@@ -78,11 +74,11 @@ module _ {A : Type 0} (G : A → Type 0) (b : ℕ → ℕ) where
   gives_kind letter f = gives_cond (kind b letter) (λ t. f (eqb-true (b 0) letter t))
 
   -- a record read for its zeros has those zeros
-  pub gives_zeros : (k n : ℕ) (x : A) → (Every (λ i. b i ≡ 0) (count k n) → G x) → Gives G (cond (zeros b k n) (some x) none)
+  pub gives_zeros : (k n : ℕ) (x : A) → (Every (λ i. b i ≡ 0) (count k n) → G x) → Gives G (cond (zeros b k n) (Some x) None)
   gives_zeros k n x f = gives_cond (zeros b k n) (λ t. gives_some G (f (zeros_zero b k n t))) (gives_none G)
 
   -- a flow or a link, read for its zeros at two places, has them at both
-  pub gives_gaps : (x : A) → (Every (λ i. b i ≡ 0) (count 3 1) × Every (λ i. b i ≡ 0) (count 6 6) → G x) → Gives G (cond (zeros b 3 1 && zeros b 6 6) (some x) none)
+  pub gives_gaps : (x : A) → (Every (λ i. b i ≡ 0) (count 3 1) × Every (λ i. b i ≡ 0) (count 6 6) → G x) → Gives G (cond (zeros b 3 1 && zeros b 6 6) (Some x) None)
   gives_gaps x f =
       gives_cond (zeros b 3 1 && zeros b 6 6)
       (λ t. let both = (and-eq-true_iff (zeros b 3 1) (zeros b 6 6)).0 t in gives_some G (f (zeros_zero b 3 1 both.0, zeros_zero b 6 6 both.1)))

@@ -1,38 +1,22 @@
 -- What a place that code answers says of the place looked for, and what a row of refusals comes to: for any kind of table.
 use Prim.Native.Nat.{ℕ, suc, ◌*◌, ◌/◌, ◌%◌, ◌≤◌}
 use native.Mathlib.Omega.{arith}
-use mathlib.Core.Path.{◌≡◌, refl, sym, ap}
+use mathlib.Core.Path.{◌≡◌, refl}
 use mathlib.Core.Bool.{Bool, true, false, not}
-use mathlib.Core.List.{List, []}
-use mathlib.Core.Option.{Option, none, some}
+use mathlib.Core.List.{List}
+use Rattle.std.specs.Prelude.{Option, None, Some}
 use lib.Dec.{eqb, ltb}
 use lib.ListN.{length}
 use borrow.Author.Tests.{eqb-true, ltb-false, not-false}
-use Rattle.laws.specs.Lists.{found, first_fault}
+use Rattle.laws.specs.Lists.{found}
 use Rattle.laws.proofs.Members.{true_not_false, or_false}
-use Rattle.laws.proofs.Walking.{Next, behind, FaultFrom, fault_here, fault_end}
 use Rattle.records.specs.Outcome.{refuse}
-use Rattle.records.specs.Table.{bad_length, as_found}
-use Rattle.records.specs.declared.table.Found.TheVariants.{At, Nothing}
-
-module _ {A : Type 0} (bad : List A → A → Bool) (table : List A) where
-  -- the record at fault is found
-  pub fault_found : (i : ℕ) {r : A} → Next table i r → bad (behind i table) r ≡ true → FaultFrom bad table i → At i ≡ as_found (first_fault bad [] 0 table)
-  fault_found i next at-fault from = sym (ap as_found (fault_here bad table i next at-fault from))
-
-  -- at the end nothing is
-  pub fault_nothing : (i : ℕ) → length table ≤ i → FaultFrom bad table i → Nothing ≡ as_found (first_fault bad [] 0 table)
-  fault_nothing i h from = sym (ap as_found (fault_end bad table i h from))
-
--- where a record is found, there is one
-pub found_refutes : (o : Option ℕ) {place : ℕ} → At place ≡ as_found o → o ≡ none → ⊥
-found_refutes none e f = let z : ◌≡◌ {A = ℕ} 0 1 = cc in omega arith
-found_refutes (some place) e f = let z : ◌≡◌ {A = ℕ} 0 1 = cc in omega arith
+use Rattle.records.specs.Table.{bad_length}
 
 -- where nothing is found, there is nothing
-pub found_false : (o : Option ℕ) → found o ≡ false → o ≡ none
-found_false none e = refl
-found_false (some x) e = absurd (true_not_false refl e)
+pub found_false : (o : Option ℕ) → found o ≡ false → o ≡ None
+found_false None e = refl
+found_false (Some x) e = absurd (true_not_false refl e)
 
 -- a refusal that does not come about leaves what comes after it
 pub refuse_zero : (n : ℕ) (t : Bool) {later : ℕ} → refuse (suc n) t later ≡ 0 → (t ≡ false) × (later ≡ 0)

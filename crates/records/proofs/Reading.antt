@@ -6,30 +6,28 @@ use native.Mathlib.Omega.{arith}
 use mathlib.Core.Path.{◌≡◌, refl, sym, ap, ◌∙◌}
 use mathlib.Core.Bool.{not}
 use mathlib.Core.List.{List, [], ◌∷◌, map}
-use mathlib.Core.Option.{Option, none, some}
+use Rattle.std.specs.Prelude.{Option, None, Some}
 use lib.ListN.{length, drop, length-map}
 use Rattle.laws.specs.Lists.{found}
 use Rattle.laws.proofs.Walking.{Next, next_of, FaultFrom, fault_step, fault_here, fault_end}
 use Rattle.records.specs.Bytes.{record_at}
-use Rattle.records.specs.Table.{reads, read_all, unreadable, decode, as_found}
-use Rattle.records.specs.declared.table.Found.{Found}
-use Rattle.records.specs.declared.table.Found.TheVariants.{At, Nothing}
+use Rattle.records.specs.Table.{reads, read_all, unreadable, decode}
 use Rattle.records.proofs.Tables.{unreadable_none}
 
 module _ {A : Type 0} where
   -- what is left of records that were all read was read
-  drop_map : (i : ℕ) (rs : List A) → drop i (map some rs) ≡ map some (drop i rs)
+  drop_map : (i : ℕ) (rs : List A) → drop i (map Some rs) ≡ map Some (drop i rs)
   drop_map zero rs = refl
   drop_map (suc i) [] = refl
   drop_map (suc i) (r ∷ rs) = drop_map i rs
 
   -- of records that were all read the first was read
-  some_first : (rs : List A) {r : A} {os : List (Option A)} → map some rs ≡ some r ∷ os → (later : List A) × (rs ≡ r ∷ later)
+  some_first : (rs : List A) {r : A} {os : List (Option A)} → map Some rs ≡ Some r ∷ os → (later : List A) × (rs ≡ r ∷ later)
   some_first [] e = let z : ◌≡◌ {A = ℕ} 0 1 = cc in absurd (omega arith)
   some_first (x ∷ rs) {r} e = let same : x ≡ r = cc in (rs, rw same)
 
   -- and is none that cannot be read
-  none_first : (rs : List A) {os : List (Option A)} → map some rs ≡ none ∷ os → ⊥
+  none_first : (rs : List A) {os : List (Option A)} → map Some rs ≡ None ∷ os → ⊥
   none_first [] e = let z : ◌≡◌ {A = ℕ} 0 1 = cc in omega arith
   none_first (x ∷ rs) e = let z : ◌≡◌ {A = ℕ} 0 1 = cc in omega arith
 
@@ -67,44 +65,34 @@ module _ {A : Type 0} (read : (ℕ → ℕ) → Option A) (bytes : List ℕ) whe
     next_read i h = next_of (read_all read bytes) i (drop_reads i (length bytes / 12) 0 i (zero-add i) (omega arith)).1
 
     -- a record that can be read is passed
-    pub unreadable_step : (i : ℕ) {r : A} → i < n → read (record_at bytes i) ≡ some r → UnreadableFrom i → UnreadableFrom (i + 1)
+    pub unreadable_step : (i : ℕ) {r : A} → i < n → read (record_at bytes i) ≡ Some r → UnreadableFrom i → UnreadableFrom (i + 1)
     unreadable_step i h e = fault_step (λ before r. not (found r)) (read_all read bytes) i (next_read i h) (rw e)
 
     -- one that cannot is the first
-    pub unreadable_here : (i : ℕ) → i < n → read (record_at bytes i) ≡ none → UnreadableFrom i → unreadable (read_all read bytes) ≡ some i
+    pub unreadable_here : (i : ℕ) → i < n → read (record_at bytes i) ≡ None → UnreadableFrom i → unreadable (read_all read bytes) ≡ Some i
     unfolding unreadable
     unreadable_here i h e = fault_here (λ before r. not (found r)) (read_all read bytes) i (next_read i h) (rw e)
 
     -- at the end there is none
-    pub unreadable_end : (i : ℕ) → n ≤ i → UnreadableFrom i → unreadable (read_all read bytes) ≡ none
+    pub unreadable_end : (i : ℕ) → n ≤ i → UnreadableFrom i → unreadable (read_all read bytes) ≡ None
     unfolding unreadable
     unreadable_end i h = fault_end (λ before r. not (found r)) (read_all read bytes) i (omega (arith, length_read_all))
 
-    module _ (all_read : unreadable (read_all read bytes) ≡ none) where
+    module _ (all_read : unreadable (read_all read bytes) ≡ None) where
       -- a table of n records that can be read has n records
       pub length_decode : length (decode read bytes) ≡ n
       unfolding decode
-      length_decode = sym (length-map (decode read bytes) some) ∙ ap length (sym (unreadable_none (read_all read bytes) all_read)) ∙ length_read_all
+      length_decode = sym (length-map (decode read bytes) Some) ∙ ap length (sym (unreadable_none (read_all read bytes) all_read)) ∙ length_read_all
 
       -- the decoded records from place i on are what is read from there on
-      decoded_from : (i : ℕ) → i < n → map some (drop i (decode read bytes)) ≡ read (record_at bytes i) ∷ drop (i + 1) (read_all read bytes)
+      decoded_from : (i : ℕ) → i < n → map Some (drop i (decode read bytes)) ≡ read (record_at bytes i) ∷ drop (i + 1) (read_all read bytes)
       unfolding decode
       decoded_from i h = sym (drop_map i (decode read bytes)) ∙ ap (drop i) (sym (unreadable_none (read_all read bytes) all_read)) ∙ (next_read i h).rest
 
       -- the record at place i can be read
-      pub can_read : (i : ℕ) → i < n → read (record_at bytes i) ≡ none → ⊥
+      pub can_read : (i : ℕ) → i < n → read (record_at bytes i) ≡ None → ⊥
       can_read i h e = none_first (drop i (decode read bytes)) (rw e at (decoded_from i h))
 
       -- the record read at place i is the next of the table's records
-      pub next_record : (i : ℕ) {r : A} → i < n → read (record_at bytes i) ≡ some r → Next (decode read bytes) i r
+      pub next_record : (i : ℕ) {r : A} → i < n → read (record_at bytes i) ≡ Some r → Next (decode read bytes) i r
       next_record i {r} h e = next_of (decode read bytes) i (some_first (drop i (decode read bytes)) (rw e at (decoded_from i h))).1
-
--- a place that code found is the place that was looked for
-pub found_at : (o : Option ℕ) {answer : Found} {place : ℕ} → answer ≡ as_found o → answer ≡ At place → o ≡ some place
-found_at none e f = let z : ◌≡◌ {A = ℕ} 0 1 = cc in absurd (omega arith)
-found_at (some place) e f = cc
-
--- where code found nothing, there is nothing
-pub found_nothing : (o : Option ℕ) {answer : Found} → answer ≡ as_found o → answer ≡ Nothing → o ≡ none
-found_nothing none e f = refl
-found_nothing (some place) e f = let z : ◌≡◌ {A = ℕ} 0 1 = cc in absurd (omega arith)

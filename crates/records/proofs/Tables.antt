@@ -1,66 +1,66 @@
 -- A table and its records: decoding undoes encoding, and encoding undoes decoding, for every kind of table whose records obey the laws of `Codec`.
 -- The records after the first are those of the table without its first twelve bytes, so that each law is by induction on the number of records.
 -- A table of which nothing is unreadable reads as `map some rs`, for its records rs; both round trips go through that list.
-use Prim.Native.Nat.{ℕ, zero, suc, ◌+◌, ◌*◌, ◌/◌, ◌%◌, ◌<◌, ◌≤◌}
+use Prim.Native.Nat.{ℕ, zero, suc, ◌+◌, ◌-◌, ◌*◌, ◌/◌, ◌%◌, ◌<◌, ◌≤◌}
 use native.Mathlib.Nat.{zero-add}
 use native.Mathlib.Omega.{arith}
 use mathlib.Core.Path.{◌≡◌, refl, ap, ap₂, sym, ◌∙◌, fun_ext}
 use mathlib.Core.Bool.{not}
 use mathlib.Core.List.{List, [], ◌∷◌, ◌++◌, map}
-use mathlib.Core.Option.{Option, none, some}
+use Rattle.std.specs.Prelude.{Option, None, Some}
 use lib.ListN.{length, get_or, take, drop, length-append, length-drop, take-append-drop, get_or-append}
-use lib.Seq.{drop_at, get_or-drop, get_or-take, length-take-le}
+use lib.Seq.{drop_at, get_or-drop, get_or-take, length-take-le, take_all}
 use Rattle.laws.specs.Lists.{Every, found, first_fault}
 use Rattle.laws.proofs.Lists.{every_get_d, every_drop, Gives}
-use Rattle.records.specs.Bytes.{Bytes, record_at}
+use Rattle.records.specs.Bytes.{Bytes, record_at, twelve}
 use Rattle.records.specs.Record.{in_passes, in_jobs, in_schedule, pass_bytes, job_bytes, slot_bytes, PassFits, JobFits, SlotFits}
 use Rattle.records.specs.Table.{reads, read_all, unreadable, readable, decode, encode}
-use Rattle.records.proofs.Codec.{Codec, passes, jobs, slots, twelve, twelve_bytes}
+use Rattle.records.proofs.Codec.{Codec, passes, jobs, slots, twelve_bytes}
 
 -- The laws of one kind of table.
 pub record RoundTrips {A : Type 0} (read : (ℕ → ℕ) → Option A) (write : A → List ℕ) (Fits : A → Type 0) : Type 0 where
   -- decoding an encoded table gives its records
   pub decode_encode : (rs : List A) → Every Fits rs → decode read (encode write rs) ≡ rs
   -- nothing of an encoded table is unreadable
-  pub encode_readable : (rs : List A) → Every Fits rs → unreadable (read_all read (encode write rs)) ≡ none
+  pub encode_readable : (rs : List A) → Every Fits rs → unreadable (read_all read (encode write rs)) ≡ None
   -- an encoded table has twelve bytes for each record
   pub encode_length : (rs : List A) → length (encode write rs) ≡ 12 * length rs
   -- encoding a decoded table gives its bytes, if they are whole records and nothing of them is unreadable
-  pub encode_decode : (bytes : List ℕ) → Bytes bytes → length bytes % 12 ≡ 0 → unreadable (read_all read bytes) ≡ none → encode write (decode read bytes) ≡ bytes
+  pub encode_decode : (bytes : List ℕ) → Bytes bytes → length bytes % 12 ≡ 0 → unreadable (read_all read bytes) ≡ None → encode write (decode read bytes) ≡ bytes
   -- decoding gives records that fit
   pub decode_fits : (bytes : List ℕ) → Bytes bytes → Every Fits (decode read bytes)
 
 module _ {A : Type 0} where
   -- records that were all read are readable, each as it is
-  pub readable_some : (rs : List A) → readable (map some rs) ≡ rs
+  pub readable_some : (rs : List A) → readable (map Some rs) ≡ rs
   unfolding readable
   readable_some [] = refl
   readable_some (r ∷ rs) = ap (λ (l : List A). r ∷ l) (readable_some rs)
 
   -- where all records were read, none is unreadable
-  pub unreadable_some : (rs : List A) → unreadable (map some rs) ≡ none
+  pub unreadable_some : (rs : List A) → unreadable (map Some rs) ≡ None
   unfolding unreadable
   unreadable_some rs = go rs [] 0
     where
-      go : (rs : List A) (before : List (Option A)) (place : ℕ) → first_fault (λ before r. not (found r)) before place (map some rs) ≡ none
+      go : (rs : List A) (before : List (Option A)) (place : ℕ) → first_fault (λ before r. not (found r)) before place (map Some rs) ≡ None
       go [] before place = refl
-      go (r ∷ rs) before place = go rs (some r ∷ before) (place + 1)
+      go (r ∷ rs) before place = go rs (Some r ∷ before) (place + 1)
 
   -- where none is unreadable, all records were read
-  pub unreadable_none : (os : List (Option A)) → unreadable os ≡ none → os ≡ map some (readable os)
+  pub unreadable_none : (os : List (Option A)) → unreadable os ≡ None → os ≡ map Some (readable os)
   unfolding unreadable readable
   unreadable_none os = go os [] 0
     where
-      go : (os before : List (Option A)) (place : ℕ) → first_fault (λ before r. not (found r)) before place os ≡ none → os ≡ map some (readable os)
+      go : (os before : List (Option A)) (place : ℕ) → first_fault (λ before r. not (found r)) before place os ≡ None → os ≡ map Some (readable os)
       go [] before place e = refl
-      go (none ∷ os) before place e = let z : ◌≡◌ {A = ℕ} 0 1 = cc in absurd (omega arith)
-      go (some r ∷ os) before place e = ap (λ (l : List (Option A)). some r ∷ l) (go os (some r ∷ before) (place + 1) e)
+      go (None ∷ os) before place e = let z : ◌≡◌ {A = ℕ} 0 1 = cc in absurd (omega arith)
+      go (Some r ∷ os) before place e = ap (λ (l : List (Option A)). Some r ∷ l) (go os (Some r ∷ before) (place + 1) e)
 
   -- the readable records have a property, if the first of them has it and the others have
   pub readable_every : (P : A → Type 0) (o : Option A) (os : List (Option A)) → Gives P o → Every P (readable os) → Every P (readable (o ∷ os))
   unfolding readable
-  readable_every P none os g h = h
-  readable_every P (some r) os g h = (g r refl, h)
+  readable_every P None os g h = h
+  readable_every P (Some r) os g h = (g r refl, h)
 
 -- the record at the next place is the one at this place of the table without its first record
 pub record_at_drop : (bytes : List ℕ) (place : ℕ) → record_at bytes (place + 1) ≡ record_at (drop 12 bytes) place
@@ -73,6 +73,15 @@ record_at_byte bytes small place k = every_get_d (λ b. b < 256) bytes 0 (omega 
 -- the first record of a table is its first twelve bytes
 pub twelve_first : (bytes : List ℕ) → 12 ≤ length bytes → twelve (record_at bytes 0) ≡ take 12 bytes
 twelve_first bytes long = twelve_bytes (take 12 bytes) (length-take-le 12 bytes long) (record_at bytes 0) (λ k l. rw (zero-add, get_or-take))
+
+-- the record at a place is the first twelve bytes of those lent from there on
+pub twelve_at : (bytes : List ℕ) (place k : ℕ) → k ≡ length bytes - 12 * place → 12 * place + 12 ≤ length bytes → twelve (record_at bytes place) ≡ take 12 (take k (drop (12 * place) bytes))
+twelve_at bytes place k all room =
+    let long : length (drop (12 * place) bytes) ≡ length bytes - 12 * place = length-drop (12 * place) bytes in
+    let lent : take k (drop (12 * place) bytes) ≡ drop (12 * place) bytes = take_all k (drop (12 * place) bytes) (omega arith) in
+    rw lent
+    (twelve_bytes (take 12 (drop (12 * place) bytes)) (length-take-le 12 (drop (12 * place) bytes) (omega arith))
+    (record_at bytes place) (λ k l. rw get_or-take (sym (get_or-drop (12 * place) bytes k 0))))
 
 module _ {A : Type 0} (read : (ℕ → ℕ) → Option A) where
   -- the records from the next place on are those from this place on of the table without its first record
@@ -89,13 +98,13 @@ module _ {A : Type 0} {read : (ℕ → ℕ) → Option A} {write : A → List �
   length_encode (r ∷ rs) = omega (arith, length-append (write r) (encode write rs), laws.sized r, length_encode rs)
 
   -- the record written first is read first
-  pub read_first : (r : A) → Fits r → (rest : List ℕ) → read (record_at (write r ++ rest) 0) ≡ some r
+  pub read_first : (r : A) → Fits r → (rest : List ℕ) → read (record_at (write r ++ rest) 0) ≡ Some r
   read_first r h rest =
       laws.read_written r h (record_at (write r ++ rest) 0)
       (λ k l. let inside : k < length (write r) = omega (arith, laws.sized r) in rw (zero-add, get_or-append))
 
   -- the records of an encoded table are all read
-  pub reads_encode : (rs : List A) → Every Fits rs → reads read (encode write rs) 0 (length rs) ≡ map some rs
+  pub reads_encode : (rs : List A) → Every Fits rs → reads read (encode write rs) 0 (length rs) ≡ map Some rs
   unfolding encode reads
   reads_encode [] h = refl
   reads_encode (r ∷ rs) h =
@@ -103,20 +112,20 @@ module _ {A : Type 0} {read : (ℕ → ℕ) → Option A} {write : A → List �
       (reads_drop read (length rs) (write r ++ encode write rs) 0 ∙ rw (drop_at (write r) (encode write rs) 12 (laws.sized r)) (reads_encode rs h.1))
 
   -- so every record over the whole length of an encoded table is read
-  pub read_all_encode : (rs : List A) → Every Fits rs → read_all read (encode write rs) ≡ map some rs
+  pub read_all_encode : (rs : List A) → Every Fits rs → read_all read (encode write rs) ≡ map Some rs
   unfolding read_all
   read_all_encode rs h = ap (λ (n : ℕ). reads read (encode write rs) 0 n) (omega (arith, length_encode rs)) ∙ reads_encode rs h
 
   -- records that were all read encode to the table that they were read from
-  pub encode_reads : (n : ℕ) (rs : List A) (bytes : List ℕ) → Bytes bytes → length bytes ≡ 12 * n → reads read bytes 0 n ≡ map some rs → encode write rs ≡ bytes
+  pub encode_reads : (n : ℕ) (rs : List A) (bytes : List ℕ) → Bytes bytes → length bytes ≡ 12 * n → reads read bytes 0 n ≡ map Some rs → encode write rs ≡ bytes
   unfolding encode reads
   encode_reads zero [] [] small e h = refl
   encode_reads zero [] (b ∷ bytes) small e h = absurd (omega arith)
   encode_reads zero (r ∷ rs) bytes small e h = let z : ◌≡◌ {A = ℕ} 0 1 = cc in absurd (omega arith)
   encode_reads (suc n) [] bytes small e h = let z : ◌≡◌ {A = ℕ} 0 1 = cc in absurd (omega arith)
   encode_reads (suc n) (r ∷ rs) bytes small e h =
-      let first : read (record_at bytes 0) ≡ some r = cc in
-      let others : reads read bytes 1 n ≡ map some rs = cc in
+      let first : read (record_at bytes 0) ≡ Some r = cc in
+      let others : reads read bytes 1 n ≡ map Some rs = cc in
       ap₂ ◌++◌ (laws.written_read (record_at bytes 0) r (λ k l. record_at_byte bytes small 0 k) first ∙ twelve_first bytes (omega arith))
       (encode_reads n rs (drop 12 bytes) (every_drop (λ b. b < 256) 12 bytes small) (omega (arith, length-drop 12 bytes)) (sym (reads_drop read n bytes 0) ∙ others))
       ∙ take-append-drop 12 bytes

@@ -1,8 +1,9 @@
 -- A 16-bit number and its two bytes. All of it is linear arithmetic with `/` and `%` by 256, which `omega` does.
 use Prim.Native.Nat.{ℕ, ◌/◌, ◌%◌, ◌<◌}
 use native.Mathlib.Omega.{arith}
-use mathlib.Core.Path.{◌≡◌}
+use mathlib.Core.Path.{◌≡◌, refl}
 use mathlib.Core.List.{[], ◌∷◌}
+use Rattle.std.specs.Int.{to_le_bytes, w16}
 use Rattle.records.specs.Bytes.{word, pair}
 use Rattle.laws.proofs.Lists.{same}
 
@@ -17,3 +18,7 @@ pair_word low high l h = same _ _ (omega arith)
 -- two bytes hold a 16-bit number
 pub word_fits : (low high : ℕ) → low < 256 → high < 256 → word low high < 65536
 word_fits low high l h = omega arith
+
+-- the library's bytes of a 16-bit number, low one first, are its two bytes
+pub le_pair : (n : ℕ) → to_le_bytes w16 n ≡ pair n
+le_pair n = refl

@@ -5,7 +5,7 @@ use native.Mathlib.Nat.{mul-add, zero-add}
 use native.Mathlib.Omega.{arith}
 use mathlib.Core.Path.{◌≡◌, sym, ap, ◌∙◌}
 use mathlib.Core.List.{List, [], ◌∷◌, ◌++◌, append-nil, append_assoc}
-use mathlib.Core.Option.{Option}
+use Rattle.std.specs.Prelude.{Option}
 use lib.ListN.{length, take, drop, length-append, length-drop, drop_of_length-le}
 use lib.Seq.{paste, paste-zero, length-paste, take-length, take_all, take_at, drop_at, drop-drop}
 use Rattle.laws.proofs.Adjoining.{paste_join, flat_append}

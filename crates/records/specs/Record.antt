@@ -1,7 +1,6 @@
--- The five records of 01's table: what reading twelve bytes finds, and the twelve bytes of a record. `b k` is byte k of the record.
-use Rattle.std.specs.Prelude.{ℕ, ◌<◌, Bool, cond, ◌&&◌, List, ◌∷◌, ◌++◌, eqb, replicate}
-use Rattle.std.proofs.Math.Option.{Option, none, some}
-use Rattle.records.specs.Bytes.{word, pair, zeros}
+-- The five 12-byte records: what reading twelve bytes finds, and the twelve bytes of a record. `b k` is byte k of the record.
+use Rattle.std.specs.Prelude.{ℕ, ◌≡◌, refl, ◌<◌, Bool, cond, ◌&&◌, List, ◌∷◌, ◌++◌, eqb, replicate, Option, None, Some}
+use Rattle.records.specs.Bytes.{word, pair, zeros, twelve, bytes_from}
 use Rattle.records.specs.declared.Pass.{Pass}
 use Rattle.records.specs.declared.Flow.{Flow}
 use Rattle.records.specs.declared.Job.{Job}
@@ -11,10 +10,6 @@ use Rattle.records.specs.declared.PassRecord.{PassRecord}
 use Rattle.records.specs.declared.PassRecord.TheVariants.{P, F}
 use Rattle.records.specs.declared.JobRecord.{JobRecord}
 use Rattle.records.specs.declared.JobRecord.TheVariants.{J, L}
-use Rattle.records.specs.declared.PassRead.{PassRead}
-use Rattle.records.specs.declared.PassRead.TheVariants as pass_reading
-use Rattle.records.specs.declared.JobRead.{JobRead}
-use Rattle.records.specs.declared.JobRead.TheVariants as job_reading
 
 -- a pass by its number, cost, period, phase and finish within
 abbrev pub pass : ℕ → ℕ → ℕ → ℕ → ℕ → Pass
@@ -42,45 +37,45 @@ kind b letter = eqb (b 0) letter
 
 -- pass: `P`, pass number, cost 16, period 16, phase 16, finish within 16, zz
 unfoldable pub read_pass : (ℕ → ℕ) → Option PassRecord
-read_pass b = cond (zeros b 10 2) (some (P (pass (b 1) (word (b 2) (b 3)) (word (b 4) (b 5)) (word (b 6) (b 7)) (word (b 8) (b 9))))) none
+read_pass b = cond (zeros b 10 2) (Some (P (pass (b 1) (word (b 2) (b 3)) (word (b 4) (b 5)) (word (b 6) (b 7)) (word (b 8) (b 9))))) None
 
 -- flow: `F`, source pass, target pass, z, latency 16, six z
 unfoldable pub read_flow : (ℕ → ℕ) → Option PassRecord
-read_flow b = cond (zeros b 3 1 && zeros b 6 6) (some (F (flow (b 1) (b 2) (word (b 4) (b 5))))) none
+read_flow b = cond (zeros b 3 1 && zeros b 6 6) (Some (F (flow (b 1) (b 2) (word (b 4) (b 5))))) None
 
 -- job: `J`, job number, cost 16, release 16, deadline 16, four z
 unfoldable pub read_job : (ℕ → ℕ) → Option JobRecord
-read_job b = cond (zeros b 8 4) (some (J (job (b 1) (word (b 2) (b 3)) (word (b 4) (b 5)) (word (b 6) (b 7))))) none
+read_job b = cond (zeros b 8 4) (Some (J (job (b 1) (word (b 2) (b 3)) (word (b 4) (b 5)) (word (b 6) (b 7))))) None
 
 -- link: `L`, from job, to job, z, latency 16, six z
 unfoldable pub read_link : (ℕ → ℕ) → Option JobRecord
-read_link b = cond (zeros b 3 1 && zeros b 6 6) (some (L (link (b 1) (b 2) (word (b 4) (b 5))))) none
+read_link b = cond (zeros b 3 1 && zeros b 6 6) (Some (L (link (b 1) (b 2) (word (b 4) (b 5))))) None
 
 -- slot: `S`, job number, start 16, end 16, six z
 unfoldable pub read_slot : (ℕ → ℕ) → Option Slot
-read_slot b = cond (zeros b 6 6) (some (slot (b 1) (word (b 2) (b 3)) (word (b 4) (b 5)))) none
+read_slot b = cond (zeros b 6 6) (Some (slot (b 1) (word (b 2) (b 3)) (word (b 4) (b 5)))) None
 
 -- "A pass table holds P and F": what a record of one is, if it can be read
 unfoldable pub in_passes : (ℕ → ℕ) → Option PassRecord
-in_passes b = cond (kind b 0x50) (read_pass b) (cond (kind b 0x46) (read_flow b) none)
+in_passes b = cond (kind b 0x50) (read_pass b) (cond (kind b 0x46) (read_flow b) None)
 
 -- "a job table J and L"
 unfoldable pub in_jobs : (ℕ → ℕ) → Option JobRecord
-in_jobs b = cond (kind b 0x4a) (read_job b) (cond (kind b 0x4c) (read_link b) none)
+in_jobs b = cond (kind b 0x4a) (read_job b) (cond (kind b 0x4c) (read_link b) None)
 
 -- "a schedule S"
 unfoldable pub in_schedule : (ℕ → ℕ) → Option Slot
-in_schedule b = cond (kind b 0x53) (read_slot b) none
+in_schedule b = cond (kind b 0x53) (read_slot b) None
 
--- what reading a record of a pass table answers, in code: one that cannot be read stops the call with a 2
-abbrev pub pass_read : Option PassRecord → PassRead
-pass_read none = pass_reading.Unreadable
-pass_read (some r) = pass_reading.Record r
+-- what a record of a pass table is, its twelve bytes say
+pub passes_local : (b : ℕ → ℕ) → in_passes b ≡ in_passes (bytes_from (twelve b) 0)
+unfolding in_passes read_pass read_flow
+passes_local b = refl
 
--- the same of a job table
-abbrev pub job_read : Option JobRecord → JobRead
-job_read none = job_reading.Unreadable
-job_read (some r) = job_reading.Record r
+-- and what one of a job table is
+pub jobs_local : (b : ℕ → ℕ) → in_jobs b ≡ in_jobs (bytes_from (twelve b) 0)
+unfolding in_jobs read_job read_link
+jobs_local b = refl
 
 -- the twelve bytes of a record of a pass table
 unfoldable pub pass_bytes : PassRecord → List ℕ

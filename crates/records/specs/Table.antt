@@ -1,10 +1,7 @@
 -- A table as its records: decoded one after another, and encoded again. `read` says what a record of this kind of table is, and `write` its bytes.
-use Rattle.std.specs.Prelude.{ℕ, zero, suc, ◌+◌, ◌/◌, ◌%◌, Bool, not, ◌||◌, List, [], ◌∷◌, length, eqb, ltb}
-use Rattle.std.proofs.Math.Option.{Option, none, some}
+use Rattle.std.specs.Prelude.{ℕ, zero, suc, ◌+◌, ◌/◌, ◌%◌, Bool, not, ◌||◌, List, [], ◌∷◌, length, eqb, ltb, Option, None, Some}
 use Rattle.laws.specs.Lists.{flat, found, first_fault}
 use Rattle.records.specs.Bytes.{record_at}
-use Rattle.records.specs.declared.table.Found.{Found}
-use Rattle.records.specs.declared.table.Found.TheVariants.{At, Nothing}
 
 -- 1: "length no multiple of 12, or over 49,152 bytes (4,096 records)"
 unfoldable pub bad_length : List ℕ → Bool
@@ -27,8 +24,8 @@ module _ {A : Type 0} where
   -- the records that could be read
   unfoldable pub readable : List (Option A) → List A
   readable [] = []
-  readable (none ∷ rs) = readable rs
-  readable (some r ∷ rs) = r ∷ readable rs
+  readable (None ∷ rs) = readable rs
+  readable (Some r ∷ rs) = r ∷ readable rs
 
   -- decoding: the records of a table
   unfoldable pub decode : ((ℕ → ℕ) → Option A) → List ℕ → List A
@@ -37,8 +34,3 @@ module _ {A : Type 0} where
   -- encoding: the records' bytes, one after another
   unfoldable pub encode : (A → List ℕ) → List A → List ℕ
   encode write = flat write
-
--- a place that was looked for, as code answers it
-abbrev pub as_found : Option ℕ → Found
-as_found none = Nothing
-as_found (some place) = At place

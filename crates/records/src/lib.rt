@@ -1,10 +1,11 @@
-// The five 12-byte records of document 01 as plain values; reading one at a place of a table, and writing one at a place of an output.
+// The five 12-byte records as plain values; reading one at a place of a table, and writing one at a place of an output.
 
 #![tactic(auto)]
 
 pub mod plain;
 pub mod read;
 pub mod reader;
+pub mod refusal;
 pub mod table;
 pub mod write;
 
@@ -63,18 +64,4 @@ pub enum PassRecord {
 pub enum JobRecord {
     J(Job),
     L(Link),
-}
-
-// What reading a record of a pass table answers.
-#[derive(Clone, Copy)]
-pub enum PassRead {
-    Record(PassRecord),
-    Unreadable,
-}
-
-// What reading a record of a job table answers.
-#[derive(Clone, Copy)]
-pub enum JobRead {
-    Record(JobRecord),
-    Unreadable,
 }

@@ -1,138 +1,76 @@
-// The plain record functions: what stands at a place of the lent bytes, by the bytes and the place alone.
-ghost use Rattle.std.specs.Prelude.{◌≡◌, ◌+◌, ◌*◌, ◌≤◌, length};
-ghost use Rattle.records.specs.Bytes.{word, zeros, bytes_from, record_at};
-ghost use Rattle.records.specs.Record.{read_pass, read_flow, read_job, read_link, in_passes, in_jobs, pass_read, job_read};
+// What twelve bytes say: the records of each kind of table as byte patterns. Bytes that say nothing are zero.
+// A 16-bit number stands as two letters, one for its low byte, which comes first, and the same doubled for its high byte.
+ghost use Rattle.std.specs.Prelude.{ℕ, ◌≡◌, Option};
+ghost use Rattle.records.specs.Bytes.{bytes_from, word, twelve};
+ghost use Rattle.records.specs.Record.{in_passes, in_jobs, passes_local, jobs_local};
 
-use crate::{Flow, Job, JobRead, JobRecord, Link, Pass, PassRead, PassRecord};
+use crate::{Flow, Job, JobRecord, Link, Pass, PassRecord};
+
+// The records of one kind of table.
+pub trait Readable: Copy {
+    // What a record's bytes say, if they are a record of this kind of table.
+    ghost reading: { (ℕ → ℕ) → Option Self };
+
+    // The record that twelve bytes are, if they are one.
+    fn from_bytes(bytes: &[u8; 12]) -> Option<Self>
+        ensures { result ≡ reading (bytes_from bytes.now 0) };
+
+    // Twelve bytes say it all.
+    ghost local: { (b : ℕ → ℕ) → reading b ≡ reading (bytes_from (twelve b) 0) };
+}
 
 // The 16-bit number that two bytes hold, the low one first.
-fn word_of(low: u8, high: u8) -> u16
+fn word(low: u8, high: u8) -> u16
     ensures { result ≡ word low high }
 {
-    low as u16 + 256 * (high as u16)
+    u16::from_le_bytes([low, high])
 }
 
-// The 16-bit number at bytes k and k + 1 of the record that starts at `at`, low byte first.
-fn word_at(s: &[u8], at: usize, k: usize) -> u16
-    requires { at + (k + 2) ≤ length s.now }
-    ensures { result ≡ word (bytes_from s.now at k) (bytes_from s.now at (k + 1)) }
-{
-    word_of(s[at + k], s[at + (k + 1)])
-}
+impl Readable for PassRecord {
+    ghost reading = { in_passes };
 
-// The n bytes from k on of the record that starts at `at` are zero.
-fn zero_from(s: &[u8], at: usize, k: usize, n: usize) -> bool
-    requires { at + (k + n) ≤ length s.now }
-    ensures { result ≡ zeros (bytes_from s.now at) k n }
-{
-    let end = k + n;
-    let mut i = k;
-    while i < end {
-        if s[at + i] != 0 {
-            return false;
+    ghost local = { passes_local };
+
+    #[tactic(auto, unfolding(crate::specs::Record::in_passes, crate::specs::Record::read_pass, crate::specs::Record::read_flow))]
+    fn from_bytes(bytes: &[u8; 12]) -> Option<PassRecord> {
+        match *bytes {
+            [b'P', number, c, cc, t, tt, p, pp, w, ww, 0, 0] => Some(PassRecord::P(Pass {
+                number,
+                cost: word(c, cc),
+                period: word(t, tt),
+                phase: word(p, pp),
+                within: word(w, ww),
+            })),
+            [b'F', source, target, 0, l, ll, 0, 0, 0, 0, 0, 0] => Some(PassRecord::F(Flow {
+                source,
+                target,
+                latency: word(l, ll),
+            })),
+            _ => None,
         }
-        i += 1;
     }
-    true
 }
 
-// The pass that starts at `at`, if its z bytes are zero.
-fn pass_at(s: &[u8], at: usize) -> PassRead
-    requires { at + 12 ≤ length s.now }
-    ensures { result ≡ pass_read (read_pass (bytes_from s.now at)) }
-{
-    if !zero_from(s, at, 10, 2) {
-        return PassRead::Unreadable;
-    }
-    PassRead::Record(PassRecord::P(Pass {
-        number: s[at + 1],
-        cost: word_at(s, at, 2),
-        period: word_at(s, at, 4),
-        phase: word_at(s, at, 6),
-        within: word_at(s, at, 8),
-    }))
-}
+impl Readable for JobRecord {
+    ghost reading = { in_jobs };
 
-// The flow that starts at `at`, if its z bytes are zero.
-fn flow_at(s: &[u8], at: usize) -> PassRead
-    requires { at + 12 ≤ length s.now }
-    ensures { result ≡ pass_read (read_flow (bytes_from s.now at)) }
-{
-    if !zero_from(s, at, 3, 1) {
-        return PassRead::Unreadable;
-    }
-    if !zero_from(s, at, 6, 6) {
-        return PassRead::Unreadable;
-    }
-    PassRead::Record(PassRecord::F(Flow {
-        source: s[at + 1],
-        target: s[at + 2],
-        latency: word_at(s, at, 4),
-    }))
-}
+    ghost local = { jobs_local };
 
-// The job that starts at `at`, if its z bytes are zero.
-fn job_at(s: &[u8], at: usize) -> JobRead
-    requires { at + 12 ≤ length s.now }
-    ensures { result ≡ job_read (read_job (bytes_from s.now at)) }
-{
-    if !zero_from(s, at, 8, 4) {
-        return JobRead::Unreadable;
+    #[tactic(auto, unfolding(crate::specs::Record::in_jobs, crate::specs::Record::read_job, crate::specs::Record::read_link))]
+    fn from_bytes(bytes: &[u8; 12]) -> Option<JobRecord> {
+        match *bytes {
+            [b'J', number, c, cc, r, rr, d, dd, 0, 0, 0, 0] => Some(JobRecord::J(Job {
+                number,
+                cost: word(c, cc),
+                release: word(r, rr),
+                deadline: word(d, dd),
+            })),
+            [b'L', from, to, 0, l, ll, 0, 0, 0, 0, 0, 0] => Some(JobRecord::L(Link {
+                from,
+                to,
+                latency: word(l, ll),
+            })),
+            _ => None,
+        }
     }
-    JobRead::Record(JobRecord::J(Job {
-        number: s[at + 1],
-        cost: word_at(s, at, 2),
-        release: word_at(s, at, 4),
-        deadline: word_at(s, at, 6),
-    }))
-}
-
-// The link that starts at `at`, if its z bytes are zero.
-fn link_at(s: &[u8], at: usize) -> JobRead
-    requires { at + 12 ≤ length s.now }
-    ensures { result ≡ job_read (read_link (bytes_from s.now at)) }
-{
-    if !zero_from(s, at, 3, 1) {
-        return JobRead::Unreadable;
-    }
-    if !zero_from(s, at, 6, 6) {
-        return JobRead::Unreadable;
-    }
-    JobRead::Record(JobRecord::L(Link {
-        from: s[at + 1],
-        to: s[at + 2],
-        latency: word_at(s, at, 4),
-    }))
-}
-
-// The record at a place of a pass table.
-pub fn pass_record(s: &[u8], place: usize) -> PassRead
-    requires { 12 * place + 12 ≤ length s.now }
-    ensures { result ≡ pass_read (in_passes (record_at s.now place)) }
-{
-    let at = 12 * place;
-    let kind = s[at];
-    if kind == b'P' {
-        return pass_at(s, at);
-    }
-    if kind == b'F' {
-        return flow_at(s, at);
-    }
-    PassRead::Unreadable
-}
-
-// The record at a place of a job table.
-pub fn job_record(s: &[u8], place: usize) -> JobRead
-    requires { 12 * place + 12 ≤ length s.now }
-    ensures { result ≡ job_read (in_jobs (record_at s.now place)) }
-{
-    let at = 12 * place;
-    let kind = s[at];
-    if kind == b'J' {
-        return job_at(s, at);
-    }
-    if kind == b'L' {
-        return link_at(s, at);
-    }
-    JobRead::Unreadable
 }

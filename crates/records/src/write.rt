@@ -1,115 +1,56 @@
-// Writing a record at a place of an output.
-ghost use Rattle.std.specs.Prelude.{◌≡◌, ◌+◌, ◌*◌, ◌/◌, ◌%◌, ◌≤◌, length};
+// Writing a record at a place of an output. A 16-bit number's two bytes are named as where records are read.
+ghost use Rattle.std.specs.Prelude.{List, ℕ, ◌≡◌, ◌+◌, ◌*◌, ◌≤◌, length};
 ghost use Rattle.std.proofs.Math.Seq.{paste};
 ghost use Rattle.records.specs.Record.{job_bytes, slot_bytes};
-ghost use Rattle.records.specs.declared.JobRecord.TheVariants.{J, L};
 
-use crate::{Job, Link, Slot};
+use crate::{JobRecord, Slot};
 
-// The low byte of a 16-bit number.
-fn low(n: u16) -> u8
-    ensures { result ≡ n % 256 }
-{
-    (n % 256) as u8
+// Records that are written as twelve bytes each.
+pub trait Writable: Copy {
+    // A record's bytes.
+    ghost written: { Self → List ℕ };
+
+    // A record's twelve bytes.
+    fn to_bytes(self) -> [u8; 12]
+        ensures { result ≡ written self };
 }
 
-// Its high byte.
-fn high(n: u16) -> u8
-    ensures { result ≡ n / 256 % 256 }
-{
-    (n / 256 % 256) as u8
-}
+impl Writable for JobRecord {
+    ghost written = { job_bytes };
 
-// Twelve bytes at a place of the output.
-fn put(out: &mut [u8], place: usize, bytes: [u8; 12])
-    requires { 12 * place + 12 ≤ length out.old }
-    ensures { out.new ≡ paste out.old (12 * place) bytes 12 }
-{
-    let at = 12 * place;
-    let mut k: usize = 0;
-    while k < 12 {
-        out[at + k] = bytes[k];
-        k += 1;
+    #[tactic(auto, using(crate::proofs::Words::le_pair), unfolding(crate::specs::Record::job_bytes))]
+    fn to_bytes(self) -> [u8; 12] {
+        match self {
+            JobRecord::J(job) => {
+                let [c, cc] = job.cost.to_le_bytes();
+                let [r, rr] = job.release.to_le_bytes();
+                let [d, dd] = job.deadline.to_le_bytes();
+                [b'J', job.number, c, cc, r, rr, d, dd, 0, 0, 0, 0]
+            }
+            JobRecord::L(link) => {
+                let [l, ll] = link.latency.to_le_bytes();
+                [b'L', link.from, link.to, 0, l, ll, 0, 0, 0, 0, 0, 0]
+            }
+        }
     }
 }
 
-// A job record at a place of the output.
-pub fn write_job(out: &mut [u8], place: usize, job: Job)
-    requires { 12 * place + 12 ≤ length out.old }
-    ensures { out.new ≡ paste out.old (12 * place) (job_bytes (J job)) 12 }
-{
-    let cost = job.cost;
-    let release = job.release;
-    let deadline = job.deadline;
-    put(
-        out,
-        place,
-        [
-            b'J',
-            job.number,
-            low(cost),
-            high(cost),
-            low(release),
-            high(release),
-            low(deadline),
-            high(deadline),
-            0,
-            0,
-            0,
-            0,
-        ],
-    );
+impl Writable for Slot {
+    ghost written = { slot_bytes };
+
+    #[tactic(auto, using(crate::proofs::Words::le_pair), unfolding(crate::specs::Record::slot_bytes))]
+    fn to_bytes(self) -> [u8; 12] {
+        let [s, ss] = self.start.to_le_bytes();
+        let [e, ee] = self.end.to_le_bytes();
+        [b'S', self.number, s, ss, e, ee, 0, 0, 0, 0, 0, 0]
+    }
 }
 
-// A link record at a place of the output.
-pub fn write_link(out: &mut [u8], place: usize, link: Link)
+// A record at a place of the output.
+pub fn write<W: Writable>(out: &mut [u8], place: usize, record: W)
     requires { 12 * place + 12 ≤ length out.old }
-    ensures { out.new ≡ paste out.old (12 * place) (job_bytes (L link)) 12 }
+    ensures { out.new ≡ paste out.old (12 * place) (W.written «record») 12 }
 {
-    let latency = link.latency;
-    put(
-        out,
-        place,
-        [
-            b'L',
-            link.from,
-            link.to,
-            0,
-            low(latency),
-            high(latency),
-            0,
-            0,
-            0,
-            0,
-            0,
-            0,
-        ],
-    );
-}
-
-// A slot record at a place of the output.
-pub fn write_slot(out: &mut [u8], place: usize, slot: Slot)
-    requires { 12 * place + 12 ≤ length out.old }
-    ensures { out.new ≡ paste out.old (12 * place) (slot_bytes slot) 12 }
-{
-    let start = slot.start;
-    let end = slot.end;
-    put(
-        out,
-        place,
-        [
-            b'S',
-            slot.number,
-            low(start),
-            high(start),
-            low(end),
-            high(end),
-            0,
-            0,
-            0,
-            0,
-            0,
-            0,
-        ],
-    );
+    let at = 12 * place;
+    out[at..at + 12].copy_from_slice(&record.to_bytes());
 }

@@ -19,9 +19,7 @@ use Rattle.jobs.specs.Judge.{Sound, is_job}
 use Rattle.jobs.specs.Jobs.{numbers, cost, deadline, job_at}
 use Rattle.jobs.specs.Arrays.{jobs_of}
 use Rattle.jobs.proofs.Sound.{numbers_member, numbers_below, numbers_rising, cost_positive}
-use Rattle.search.specs.declared.fit.Start.TheVariants.{At, NotYet}
-use Rattle.search.specs.declared.fit.Next.{Next}
-use Rattle.search.specs.declared.fit.Next.TheVariants.{Ends, Not}
+use Rattle.std.specs.Prelude.{Option, Some, None}
 use Rattle.search.specs.Run.{has, linked_from, may_follow, free, start_after, run_next, run}
 use Rattle.search.specs.Live.{remaining, on_time, each_fits, all_fit, live}
 use Rattle.search.specs.Tree.{opens}
@@ -126,12 +124,12 @@ module _ (table : List JobRecord) (sound : Sound table) where
         regroup false b c = refl
 
     -- what the code finds of the candidate
-    abbrev pub candidate : Next
+    abbrev pub candidate : Option ℕ
     candidate =
         opens_at (jobs_of table).cost (jobs_of table).release (jobs_of table).deadline (get_or (links_into table) k []) (limit table) (state_of table q).placed (state_of table q).ends (state_of table q).free k
 
     -- a job of the table is opened exactly when it opens after the sequence, and ends when it does there
-    pub candidate_known : Memᴰ k (numbers table) → candidate ≡ cond (opens table q k) (Ends (free (run table (k ∷ q)))) Not
+    pub candidate_known : Memᴰ k (numbers table) → candidate ≡ cond (opens table q k) (Some (free (run table (k ∷ q)))) None
     unfolding opens_at opens may_follow ends_at
     candidate_known known = step (either (is_placed (state_of table q).placed k))
       where
@@ -139,13 +137,13 @@ module _ (table : List JobRecord) (sound : Sound table) where
         below = numbers_below table k known
 
         tried : (ready : Bool)
-            → ends_at (jobs_of table).cost (jobs_of table).release (jobs_of table).deadline (limit table) (state_of table q).placed k (cond ready (At (start_after table (run table q) k)) NotYet)
-            ≡ cond (ready && live table (k ∷ q)) (Ends (free (run table (k ∷ q)))) Not
+            → ends_at (jobs_of table).cost (jobs_of table).release (jobs_of table).deadline (limit table) (state_of table q).placed k (cond ready (Some (start_after table (run table q) k)) None)
+            ≡ cond (ready && live table (k ∷ q)) (Some (free (run table (k ∷ q)))) None
         tried true =
             rw (cost_at table k below, deadline_at table k below, fits_rest (state_of table q).placed k ended (k ∷ q) (left_after q o.sequence k), live_next, free_last table q k)
         tried false = refl
 
-        step : (is_placed (state_of table q).placed k ≡ true) ⊎ (is_placed (state_of table q).placed k ≡ false) → candidate ≡ cond (opens table q k) (Ends (free (run table (k ∷ q)))) Not
+        step : (is_placed (state_of table q).placed k ≡ true) ⊎ (is_placed (state_of table q).placed k ≡ false) → candidate ≡ cond (opens table q k) (Some (free (run table (k ∷ q)))) None
         step (inl e) =
             let holds : has q k ≡ true = not_false_true (has q k) (λ h. true_not_false e ((state_left table sound q o.sequence k below).1 ((rest_member table q k).1 (known, (has_not q k).0 (rw h))))) in
             rw (e, holds)
@@ -155,7 +153,7 @@ module _ (table : List JobRecord) (sound : Sound table) where
             rw (e, lacks, starts table sound k below q o.sequence) (tried (all (linked_from q k) table))
 
     -- a number that no job has is never opened
-    pub candidate_unknown : k < 48 → any (is_job k) table ≡ false → candidate ≡ Not
+    pub candidate_unknown : k < 48 → any (is_job k) table ≡ false → candidate ≡ None
     unfolding opens_at
     candidate_unknown below none = rw marked
       where

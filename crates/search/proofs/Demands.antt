@@ -1,11 +1,11 @@
--- Demand 2 on bytes, and what demand 3 says of scheduling. A call that 1 to 9 do not refuse searches the normal form, and comes out in one of three ways: the budget is spent, no starts
+-- What is said of a schedule and of its refusals, on bytes, and that a table and its normal form get the same. A call that 1 to 9 do not refuse searches the normal form, and comes out in one of three ways: the budget is spent, no starts
 -- are feasible, or the first sequence is given. Each number stands for one of the three, so it is given exactly when that way's facts hold. A normal form is searched as its own normal form.
 use Prim.Native.Nat.{ℕ, ◌*◌, ◌-◌, ◌<◌, ◌≤◌}
 use native.Mathlib.Omega.{arith}
 use mathlib.Core.Bool.{Bool, true, false}
 use mathlib.Core.Path.{◌≡◌, refl, ap, sym, ◌∙◌}
 use mathlib.Core.Logic.{◌↔◌}
-use mathlib.Core.Option.{Option, none, some}
+use Rattle.std.specs.Prelude.{Option, None, Some}
 use mathlib.Core.List.{List}
 use borrow.Author.Tests.{ltb-true, ltb-false, le-ltb}
 use lib.Dec.{ltb}
@@ -50,9 +50,9 @@ module _ {table : List JobRecord} (normalisable : Normalisable table) (budget : 
       step : (t : Bool) → ltb budget (openings (normal_form table)) ≡ t → (o : Option (List ℕ)) → schedule (normal_form table) ≡ o
           → Comes table budget (elim t [ true ↦ refused 11 budget | false ↦ decided (normal_form table) o (openings (normal_form table)) ])
       step true e o found = spent (ltb-true _ _ e)
-      step false e none found =
+      step false e None found =
           nothing (ltb-false _ _ e) (λ start f. (none_feasible (normal_form table) (normal_sound normalisable)).0 found start ((feasible_same normalisable start).0 f))
-      step false e (some q) found = given (ltb-false _ _ e) (schedule_first (normal_form table) (normal_sound normalisable) q found)
+      step false e (Some q) found = given (ltb-false _ _ e) (schedule_first (normal_form table) (normal_sound normalisable) q found)
 
 -- the normal form of a table's records
 abbrev pub normal_of : List ℕ → List JobRecord

@@ -12,6 +12,7 @@ use Rattle.jobs.specs.declared.Jobs.{Jobs}
 use Rattle.normal.specs.Chosen.{present_in}
 use Rattle.search.specs.declared.State.{State}
 use Rattle.search.specs.declared.Found.{Found}
+use Rattle.search.specs.declared.Found.TheVariants.{Nothing}
 use Rattle.search.specs.Live.{live}
 use Rattle.search.specs.Call.{searched}
 use Rattle.search.specs.State.{rest_fits, given, limit_of, begun, links_into, opened, walk, Answers}
@@ -21,7 +22,7 @@ use Rattle.search.proofs.States.{state_of}
 use Rattle.search.proofs.Candidates.{live_begun}
 use Rattle.search.proofs.Searching.{held, search_live, search_dead}
 
-module _ (table : List JobRecord) (sound : Sound table) (jobs : Jobs) (placed : List Bool) (end budget : ℕ) (r : Found) (before after : List ℕ) (fits : Bool)
+module _ (table : List JobRecord) (sound : Sound table) (jobs : Jobs) (placed : List Bool) (end budget : ℕ) (before : List ℕ) (fits : Bool)
     (is : jobs ≡ jobs_of table) (marked : placed ≡ map not jobs.present) (ended : end ≡ limit_of jobs)
     (tested : fits ≡ rest_fits jobs.cost jobs.release jobs.deadline end placed 48 0) where
   -- the test of all jobs is whether the empty sequence is live
@@ -29,16 +30,16 @@ module _ (table : List JobRecord) (sound : Sound table) (jobs : Jobs) (placed : 
   unfolding state_of begun
   tells_live = tested ∙ rw (marked, ended, is) (live_begun table sound)
 
-  pub door_dead : fits ≡ false → r.number ≡ 10 → r.openings ≡ 0 → after ≡ before → Answers (searched table budget) r before after
-  door_dead e number openings output =
-      answers_same (refused 10 0) (searched table budget) r before before after (search_dead table sound budget (sym tells_live ∙ e)) refl
-      record { number = number; openings = openings; output = output }
+  pub door_dead : fits ≡ false → Answers (searched table budget) (Nothing 0) before before
+  door_dead e =
+      answers_same (refused 10 0) (searched table budget) (Nothing 0) before before before (search_dead table sound budget (sym tells_live ∙ e)) refl
+      record { number = refl; openings = refl; output = refl }
 
-  pub door_live : (into : List (List ℕ)) (count : ℕ) (s : State) → into ≡ links_into table → count ≡ length (present_in jobs)
+  pub door_live : (r : Found) (after : List ℕ) (into : List (List ℕ)) (count : ℕ) (s : State) → into ≡ links_into table → count ≡ length (present_in jobs)
       → s ≡ record { placed = placed; order = replicate 48 0; ends = replicate 48 0; free = 0 } → fits ≡ true
       → Answers (walk (given jobs.cost jobs.release jobs.deadline into end count) budget (opened (given jobs.cost jobs.release jobs.deadline into end count) s 0) 0) r before after
       → Answers (searched table budget) r before after
   unfolding begun
-  door_live into count s links counted started e a =
+  door_live r after into count s links counted started e a =
       answers_same (walk (held table) budget (opened (held table) (begun (jobs_of table).present) 0) 0) (searched table budget) r before before after
       (search_live table sound budget (sym tells_live ∙ e)) refl (rw (started, marked, ended, links, counted, is, numbers_in table) at a)

@@ -4,7 +4,7 @@ use Prim.Native.Nat.{ℕ, ◌+◌, ◌-◌, ◌≤◌}
 use native.Mathlib.Omega.{arith}
 use mathlib.Core.Path.{◌≡◌, refl}
 use mathlib.Core.Logic.{◌↔◌}
-use mathlib.Core.Option.{Option, none, some}
+use Rattle.std.specs.Prelude.{Option, None, Some}
 use mathlib.Core.List.{List, Memᴰ}
 use Rattle.laws.specs.Lists.{Every}
 use Rattle.laws.proofs.Members.{every_member, member_every}
@@ -65,24 +65,24 @@ module _ (table : List JobRecord) (sound : Sound table) where
           omega (arith, numbers_below table s.number known, deadline_limit table sound s.number known)
 
   -- so the schedule's run gives feasible starts
-  pub schedule_feasible : (q : List ℕ) → schedule table ≡ some q → Feasible table (λ k. end_in (run table q) k - cost table k)
+  pub schedule_feasible : (q : List ℕ) → schedule table ≡ Some q → Feasible table (λ k. end_in (run table q) k - cost table k)
   schedule_feasible q e = let f = schedule_first table sound q e in run_feasible q f.is_open f.is_full
 
   -- no schedule is given exactly when no starts are feasible
-  pub none_feasible : (schedule table ≡ none) ↔ ((start : ℕ → ℕ) → Feasible table start → ⊥)
+  pub none_feasible : (schedule table ≡ None) ↔ ((start : ℕ → ℕ) → Feasible table start → ⊥)
   none_feasible = (
     λ e start f. let r = feasible_found table sound start f in (schedule_none table sound e).0 r.0 r.1 r.2,
     λ h. step h (schedule table) refl,
   )
     where
-      step : ((start : ℕ → ℕ) → Feasible table start → ⊥) → (o : Option (List ℕ)) → schedule table ≡ o → schedule table ≡ none
-      step h none e = e
-      step h (some q) e = absurd (h (start_in table q) (schedule_feasible q e))
+      step : ((start : ℕ → ℕ) → Feasible table start → ⊥) → (o : Option (List ℕ)) → schedule table ≡ o → schedule table ≡ None
+      step h None e = e
+      step h (Some q) e = absurd (h (start_in table q) (schedule_feasible q e))
 
   -- a schedule is given wherever starts are feasible
-  pub feasible_scheduled : (start : ℕ → ℕ) → Feasible table start → (q : List ℕ) × (schedule table ≡ some q)
+  pub feasible_scheduled : (start : ℕ → ℕ) → Feasible table start → (q : List ℕ) × (schedule table ≡ Some q)
   feasible_scheduled start f = step (schedule table) refl
     where
-      step : (o : Option (List ℕ)) → schedule table ≡ o → (q : List ℕ) × (schedule table ≡ some q)
-      step none e = absurd (none_feasible.0 e start f)
-      step (some q) e = (q, e)
+      step : (o : Option (List ℕ)) → schedule table ≡ o → (q : List ℕ) × (schedule table ≡ Some q)
+      step None e = absurd (none_feasible.0 e start f)
+      step (Some q) e = (q, e)

@@ -2,34 +2,35 @@
 -- A loop that has come to number m keeps what it has found of the numbers below m; what it is still to find speaks of the numbers from m on.
 use Prim.Native.Nat.{ℕ, ◌+◌, ◌-◌, ◌≤◌, ◌<◌, max}
 use native.Mathlib.Omega.{arith}
-use mathlib.Core.Path.{◌≡◌, sym, ap, ◌∙◌}
+use mathlib.Core.Path.{◌≡◌, refl, sym, ap, ◌∙◌}
 use mathlib.Core.Bool.{Bool, true, false, cond, not, ◌&&◌}
 use mathlib.Core.List.{List, ◌∷◌, map}
-use lib.Dec.{leb, ltb}
-use borrow.Author.Tests.{eq-eqb, ne_eqb, le-ltb, lt-ltb, le-leb, lt-leb}
+use lib.Dec.{ltb, eqb}
+use borrow.Author.Tests.{eq-eqb, ne_eqb, eqb-true, le-ltb, lt-ltb}
 use Rattle.laws.specs.Lists.{all, largest, total}
+use Rattle.laws.proofs.Members.{same_test}
 use Rattle.laws.proofs.Scanning.{keep_taken, keep_left, keep_none}
 use Rattle.laws.proofs.Keeping.{keep_from, keep_start}
-use Rattle.search.specs.declared.fit.Start.{Start}
-use Rattle.search.specs.declared.fit.Start.TheVariants.{At, NotYet}
-use Rattle.search.specs.declared.fit.Next.TheVariants.{Ends, Not}
-use Rattle.search.specs.State.{at, is_placed, linked, start_at, StartBelow, remains_after, left, fits_after, together_after, rest_fits, ends_at, opens_at}
+use Rattle.std.specs.Prelude.{Option, Some, None}
+use Rattle.std.proofs.lemmas.Option.{none-some, cond_some}
+use Rattle.std.specs.Option.{option_eq}
+use Rattle.search.specs.State.{number_or_none, at, is_placed, linked, start_at, remains_after, left, fits_after, together_after, rest_fits, ends_at, opens_at}
 
 -- `start_after`: with what the links from the jobs below i allow in t, the links from the jobs from i on are still to be seen
 module _ (row : List ℕ) (placed : List Bool) (ends : List ℕ) (limit : ℕ) where
   abbrev is_linked : ℕ → Bool
   is_linked i = ltb 0 (at row i)
 
-  unfoldable pub start_from : ℕ → ℕ → Start
+  unfoldable pub start_from : ℕ → ℕ → Option ℕ
   start_from t i = start_at row placed ends t (keep_from is_linked i limit)
 
   pub start_start : (t : ℕ) → start_from t 0 ≡ start_at row placed ends t (linked row limit)
   unfolding start_from linked
   start_start t = ap (start_at row placed ends t) (keep_start is_linked limit)
 
-  pub start_end : (t i : ℕ) → limit ≤ i → At t ≡ start_from t i
+  pub start_end : (t i : ℕ) → limit ≤ i → Some t ≡ start_from t i
   unfolding start_from start_at
-  start_end t i h = rw (keep_none is_linked i limit h) (ap At (omega arith))
+  start_end t i h = rw (keep_none is_linked i limit h) (ap Some (omega arith))
 
   start_more : (t i : ℕ) (from : List ℕ) → is_placed placed i ≡ true → start_at row placed ends (max t (at ends i + (at row i - 1))) from ≡ start_at row placed ends t (i ∷ from)
   unfolding start_at
@@ -43,7 +44,7 @@ module _ (row : List ℕ) (placed : List Bool) (ends : List ℕ) (limit : ℕ) w
     unfolding start_from
     start_skip t' kept none = rw kept (ap (start_at row placed ends t) (sym (keep_left is_linked i limit below (le-ltb 0 (at row i) (omega arith)))))
 
-    pub start_not : (latency ≡ 0 → ⊥) → is_placed placed i ≡ false → NotYet ≡ start_from t i
+    pub start_not : (latency ≡ 0 → ⊥) → is_placed placed i ≡ false → None ≡ start_from t i
     unfolding start_from start_at
     start_not some e = rw (keep_taken is_linked i limit below (lt-ltb 0 (at row i) (omega arith)), e)
 
@@ -53,15 +54,15 @@ module _ (row : List ℕ) (placed : List Bool) (ends : List ℕ) (limit : ℕ) w
         rw (raised, ended, read)
         (start_more t i (keep_from is_linked (i + 1) limit) e ∙ ap (start_at row placed ends t) (sym (keep_taken is_linked i limit below (lt-ltb 0 (at row i) (omega arith)))))
 
--- `remains`
-module _ (placed : List Bool) (k m : ℕ) where
-  pub remains_same : m ≡ k → false ≡ remains_after placed k m
-  unfolding remains_after
-  remains_same h = rw (eq-eqb m k h)
-
-  pub remains_other : (m ≡ k → ⊥) → not (is_placed placed m) ≡ remains_after placed k m
-  unfolding remains_after
-  remains_other h = rw (ne_eqb m k h)
+-- whether job m remains after the last job, if there is one, as the code tells
+pub remains_tested : (placed : List Bool) (last_job : Option ℕ) (m : ℕ) → m < 48
+    → remains_after placed (number_or_none last_job) m ≡ (not (option_eq eqb last_job (Some m)) && not (is_placed placed m))
+unfolding remains_after
+remains_tested placed None m below = rw (ne_eqb m 48 (λ e. omega arith)) refl
+remains_tested placed (Some k) m below = ap (λ t. not t && not (is_placed placed m)) (same_test (eqb m k) (eqb k m) (turn m k, turn k m))
+  where
+    turn : (i j : ℕ) → eqb i j ≡ true → eqb j i ≡ true
+    turn i j e = eq-eqb j i (sym (eqb-true i j e))
 
 -- `rest_fits`: with the costs of the jobs below m that remain and their largest deadline, those from m on are still to be seen
 module _ (cost release deadline : List ℕ) (limit : ℕ) (placed : List Bool) (k t : ℕ) where
@@ -106,58 +107,19 @@ module _ (cost release deadline : List ℕ) (limit : ℕ) (placed : List Bool) (
         let y : max (max last (at deadline m)) (largest (map (at deadline) others)) ≡ max last (max (at deadline m) (largest (map (at deadline) others))) = omega arith in
         rw (keep_taken (remains_after placed k) m limit below e, f, p, q, costing, due, z, y)
 
--- the last line of `rest_fits`
-pub together_none : (t costs last : ℕ) → costs ≡ 0 → true ≡ together_after t costs last
-unfolding together_after
-together_none t costs last e = rw (eq-eqb costs 0 e)
-
-pub together_some : (t costs last : ℕ) → (costs ≡ 0 → ⊥) → leb (t + costs) last ≡ together_after t costs last
-unfolding together_after
-together_some t costs last e = rw (ne_eqb costs 0 e)
-
 -- `opens_at`
-pub start_below : (bound t : ℕ) (s : Start) → s ≡ At t → StartBelow bound s → t < bound
-start_below bound t s e h = rw e at h
-
 module _ (cost release deadline row : List ℕ) (limit : ℕ) (placed : List Bool) (ends : List ℕ) (free k : ℕ) where
-  pub opens_placed : is_placed placed k ≡ true → Not ≡ opens_at cost release deadline row limit placed ends free k
-  unfolding opens_at
-  opens_placed e = rw e
-
-  module _ (first f r : ℕ) (s : Start) (fresh : is_placed placed k ≡ false) (later : first ≡ max f r) (freed : f ≡ free) (released : r ≡ at release k)
-      (started : s ≡ start_at row placed ends first (linked row limit)) where
-    opens_ends : opens_at cost release deadline row limit placed ends free k ≡ ends_at cost release deadline limit placed k s
-    unfolding opens_at
-    opens_ends = rw (fresh, started, later, freed, released)
-
-    pub opens_not_yet : s ≡ NotYet → Not ≡ opens_at cost release deadline row limit placed ends free k
-    unfolding ends_at
-    opens_not_yet e = rw (opens_ends, e)
-
-    module _ (t c d : ℕ) (known : s ≡ At t) (costing : c ≡ at cost k) (due : d ≡ at deadline k) where
-      pub opens_late : d < t + c → Not ≡ opens_at cost release deadline row limit placed ends free k
-      unfolding ends_at
-      opens_late h = rw (opens_ends, known, ← costing, ← due, lt-leb (t + c) d h)
-
-      module _ (fits : Bool) (on_time : t + c ≤ d) (tested : fits ≡ rest_fits cost release deadline limit placed k (t + c)) where
-        pub opens_unfit : fits ≡ false → Not ≡ opens_at cost release deadline row limit placed ends free k
-        unfolding ends_at
-        opens_unfit e = rw (opens_ends, known, ← costing, ← due, le-leb (t + c) d on_time, ← tested, e)
-
-        pub opens_fit : fits ≡ true → Ends (t + c) ≡ opens_at cost release deadline row limit placed ends free k
-        unfolding ends_at
-        opens_fit e = rw (opens_ends, known, ← costing, ← due, le-leb (t + c) d on_time, ← tested, e)
-
   -- a job that may come next ends after its cost at the earliest
-  pub opens_cost : (e : ℕ) → opens_at cost release deadline row limit placed ends free k ≡ Ends e → at cost k ≤ e
+  pub opens_cost : (e : ℕ) → opens_at cost release deadline row limit placed ends free k ≡ Some e → at cost k ≤ e
   unfolding opens_at ends_at
   opens_cost e h = step (is_placed placed k) (start_at row placed ends (max free (at release k)) (linked row limit)) h
     where
-      ended : (t : ℕ) (b : Bool) → cond b (Ends (t + at cost k)) Not ≡ Ends e → at cost k ≤ e
-      ended t true g = let same : t + at cost k ≡ e = cc in omega arith
-      ended t false g = let z : ◌≡◌ {A = ℕ} 0 1 = cc in absurd (omega arith)
+      step : (b : Bool) (s : Option ℕ) → cond b None (ends_at cost release deadline limit placed k s) ≡ Some e → at cost k ≤ e
+      step true s g = absurd (none-some e g)
+      step false None g = absurd (none-some e g)
+      step false (Some t) g = let ends : t + at cost k ≡ e = (cond_some _ _ _ g).1 in omega arith
 
-      step : (b : Bool) (s : Start) → cond b Not (ends_at cost release deadline limit placed k s) ≡ Ends e → at cost k ≤ e
-      step true s g = let z : ◌≡◌ {A = ℕ} 0 1 = cc in absurd (omega arith)
-      step false NotYet g = let z : ◌≡◌ {A = ℕ} 0 1 = cc in absurd (omega arith)
-      step false (At t) g = ended t (leb (t + at cost k) (at deadline k) && rest_fits cost release deadline limit placed k (t + at cost k)) g
+-- what `start_after` and `rest_fits` are proved by
+pub ruleset start_laws = (start_start, start_end, start_skip, start_not, start_on)
+
+pub ruleset rest_laws = (rest_start, rest_end, rest_skip, rest_not, rest_on, remains_tested)

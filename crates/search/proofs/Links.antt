@@ -21,7 +21,7 @@ use Rattle.jobs.specs.Judge.{Sound}
 use Rattle.jobs.specs.Jobs.{release, strongest}
 use Rattle.jobs.specs.Arrays.{jobs_of}
 use Rattle.jobs.proofs.Sound.{link_known, strongest_bounds, strongest_attained}
-use Rattle.search.specs.declared.fit.Start.TheVariants.{At, NotYet}
+use Rattle.std.specs.Prelude.{Some, None}
 use Rattle.search.specs.Run.{has, linked_from, end_in, free, links_allow, start_after, run}
 use Rattle.search.specs.Order.{Sequence}
 use Rattle.search.specs.State.{at, is_placed, linked, start_at, links_into}
@@ -108,7 +108,7 @@ module _ (table : List JobRecord) (sound : Sound table) (k : ℕ) (below : k < 4
 
     -- so the job may start when it does after the sequence, if it may follow
     pub starts : start_at row (state_of table q).placed (state_of table q).ends (max (state_of table q).free (at (jobs_of table).release k)) sources
-        ≡ cond (all (linked_from q k) table) (At (start_after table (run table q) k)) NotYet
+        ≡ cond (all (linked_from q k) table) (Some (start_after table (run table q) k)) None
     unfolding start_at start_after
     starts =
         let z : max (max (free (run table q)) (release table k)) (links_allow table (run table q) k) ≡ max (free (run table q)) (max (release table k) (links_allow table (run table q) k)) = omega arith in

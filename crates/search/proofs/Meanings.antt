@@ -86,7 +86,7 @@ unfolding all_fit
 all_fit_means t [] = (λ h. inl refl, λ h. refl)
 all_fit_means t (j ∷ jobs) = (
   λ h. inr ((largest_reached sum j jobs).0 h),
-  elim [ inl e ↦ let z : ◌≡◌ {A = ℕ} 0 1 = cc in absurd (omega arith) | inr r ↦ (largest_reached sum j jobs).1 r ],
+  elim [ inl e ↦ absurd (grind arith) | inr r ↦ (largest_reached sum j jobs).1 r ],
 )
   where
     sum : ℕ

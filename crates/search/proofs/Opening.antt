@@ -36,7 +36,7 @@ module _ (table : List JobRecord) where
     where
       go : (later beginning : List ℕ) → later ++ beginning ≡ [] → Live table beginning
       go [] beginning e = rw e l
-      go (k ∷ later) beginning e = let z : ◌≡◌ {A = ℕ} 0 1 = cc in absurd (omega arith)
+      go (k ∷ later) beginning e = absurd (grind arith)
 
   -- an open sequence stays open with a job that may follow it, if that makes it live
   pub open_next : {q : List ℕ} {k : ℕ} → Open table q → MayFollow table q k → Live table (k ∷ q) → Open table (k ∷ q)

@@ -63,7 +63,7 @@ full_rest table q = (
   where
     none : (ns : List ℕ) → map (job_at table) ns ≡ [] → ns ≡ []
     none [] e = refl
-    none (n ∷ ns) e = let z : ◌≡◌ {A = ℕ} 0 1 = cc in absurd (omega arith)
+    none (n ∷ ns) e = absurd (grind arith)
 
 -- a sequence that holds all jobs holds each of the table's
 pub full_holds : (table : List JobRecord) (q : List ℕ) → Full table q → (n : ℕ) → Memᴰ n (numbers table) → Memᴰ n q

@@ -5,7 +5,8 @@ use native.Mathlib.Omega.{arith}
 use mathlib.Core.Bool.{Bool, true, false}
 use mathlib.Core.Path.{◌≡◌, refl, ap, sym, ◌∙◌}
 use mathlib.Core.Logic.{◌↔◌, ◌⊎◌, inl, inr}
-use mathlib.Core.Option.{Option, none, some}
+use Rattle.std.specs.Prelude.{Option, None, Some}
+use Rattle.std.proofs.lemmas.Option.{none-some}
 use mathlib.Core.List.{List, [], ◌∷◌, ◌++◌}
 use mathlib.Core.List.Memᴰ
 use mathlib.Core.List.{Memᴰ}
@@ -36,12 +37,12 @@ unfolding up_to_full
 counted_first n p qs t e = ap (λ (s : Bool). elim s as (λ b. ℕ) [ true ↦ 1 | false ↦ up_to_full n qs + 1 ]) e
 
 -- where a first full sequence is found, the list falls into parts around it
-pub first_full_some : (n : ℕ) (qs : List (List ℕ)) (q : List ℕ) → first_full n qs ≡ some q → Around n qs q
+pub first_full_some : (n : ℕ) (qs : List (List ℕ)) (q : List ℕ) → first_full n qs ≡ Some q → Around n qs q
 unfolding first_full
-first_full_some n [] q e = let z : ◌≡◌ {A = ℕ} 0 1 = cc in absurd (omega arith)
+first_full_some n [] q e = absurd (none-some q e)
 first_full_some n (p ∷ qs) q e = step (full n p) refl e (first_full_some n qs q)
   where
-    step : (t : Bool) → full n p ≡ t → ◌≡◌ {A = Option (List ℕ)} (elim t [ true ↦ some p | false ↦ first_full n qs ]) (some q) → (first_full n qs ≡ some q → Around n qs q) → Around n (p ∷ qs) q
+    step : (t : Bool) → full n p ≡ t → ◌≡◌ {A = Option (List ℕ)} (elim t [ true ↦ Some p | false ↦ first_full n qs ]) (Some q) → (first_full n qs ≡ Some q → Around n qs q) → Around n (p ∷ qs) q
     step true h e below =
         let same : p ≡ q = cc in
         record { before = []; after = qs; whole = ap (λ (r : List ℕ). r ∷ qs) same; not_before = tt; is_full = ap (full n) (sym same) ∙ h; counted = counted_first n p qs true h ∙ omega arith }
@@ -57,15 +58,15 @@ first_full_some n (p ∷ qs) q e = step (full n p) refl e (first_full_some n qs 
         }
 
 -- where none is found, none of the list is full, and all are counted
-pub first_full_none : (n : ℕ) (qs : List (List ℕ)) → first_full n qs ≡ none → Every (λ p. full n p ≡ false) qs × (up_to_full n qs ≡ length qs)
+pub first_full_none : (n : ℕ) (qs : List (List ℕ)) → first_full n qs ≡ None → Every (λ p. full n p ≡ false) qs × (up_to_full n qs ≡ length qs)
 unfolding first_full up_to_full
 first_full_none n [] e = (tt, refl)
 first_full_none n (p ∷ qs) e = step (full n p) refl e (first_full_none n qs)
   where
-    step : (t : Bool) → full n p ≡ t → ◌≡◌ {A = Option (List ℕ)} (elim t [ true ↦ some p | false ↦ first_full n qs ]) none
-        → (first_full n qs ≡ none → Every (λ p. full n p ≡ false) qs × (up_to_full n qs ≡ length qs))
+    step : (t : Bool) → full n p ≡ t → ◌≡◌ {A = Option (List ℕ)} (elim t [ true ↦ Some p | false ↦ first_full n qs ]) None
+        → (first_full n qs ≡ None → Every (λ p. full n p ≡ false) qs × (up_to_full n qs ≡ length qs))
         → Every (λ p. full n p ≡ false) (p ∷ qs) × (up_to_full n (p ∷ qs) ≡ length (p ∷ qs))
-    step true h e below = let z : ◌≡◌ {A = ℕ} 0 1 = cc in absurd (omega arith)
+    step true h e below = absurd (none-some p (sym e))
     step false h e below = let r = below e in ((h, r.0), counted_first n p qs false h ∙ omega (arith, r.1))
 
 -- there is only one first full sequence
@@ -95,7 +96,7 @@ module _ (table : List JobRecord) (sound : Sound table) where
   not_full q o e f = true_not_false ((full_means table sound q o.sequence).1 f) e
 
   -- "when there is none": no schedule means that no open sequence holds all jobs, and that all open sequences are counted
-  pub schedule_none : schedule table ≡ none → ((q : List ℕ) → Open table q → Full table q → ⊥) × (openings table ≡ length (open_sequences table))
+  pub schedule_none : schedule table ≡ None → ((q : List ℕ) → Open table q → Full table q → ⊥) × (openings table ≡ length (open_sequences table))
   unfolding schedule openings
   schedule_none e =
       let r = first_full_none (length (numbers table)) (open_sequences table) e in
@@ -105,7 +106,7 @@ module _ (table : List JobRecord) (sound : Sound table) where
   is_open_lem : (p : List ℕ) → Memᴰ p (open_sequences table) → Open table p
   is_open_lem = every_member (Open table) listed.are_open
 
-  module _ (q : List ℕ) (found : schedule table ≡ some q) where
+  module _ (q : List ℕ) (found : schedule table ≡ Some q) where
     -- the listed sequences around the schedule
     around : Around (length (numbers table)) (open_sequences table) q
     unfolding schedule
@@ -159,12 +160,12 @@ module _ (table : List JobRecord) (sound : Sound table) where
         step other f (inr m) = later other (Memᴰ.cases_cons m)
 
   -- there is a schedule exactly when there is a first open sequence that holds all jobs, and it is that one
-  pub schedule_means : (q : List ℕ) → (schedule table ≡ some q) ↔ First table q
+  pub schedule_means : (q : List ℕ) → (schedule table ≡ Some q) ↔ First table q
   schedule_means q = (schedule_first q, λ f. step f (schedule table) refl)
     where
-      step : First table q → (o : Option (List ℕ)) → schedule table ≡ o → schedule table ≡ some q
-      step f none e = absurd ((schedule_none e).0 q f.is_open f.is_full)
-      step f (some p) e = e ∙ ap some (first_unique table p q (schedule_first p e) f)
+      step : First table q → (o : Option (List ℕ)) → schedule table ≡ o → schedule table ≡ Some q
+      step f None e = absurd ((schedule_none e).0 q f.is_open f.is_full)
+      step f (Some p) e = e ∙ ap Some (first_unique table p q (schedule_first p e) f)
 
   -- the openings where there is a first: of the list of just the open sequences, those before it, and it
   pub openings_first : (q : List ℕ) → First table q → (earlier : List (List ℕ)) × (later : List (List ℕ)) × Lists table (earlier ++ q ∷ later) × (openings table ≡ length earlier + 1)
@@ -175,16 +176,16 @@ module _ (table : List JobRecord) (sound : Sound table) where
   openings_all h qs all = step (schedule table) refl
     where
       step : (o : Option (List ℕ)) → schedule table ≡ o → openings table ≡ length qs
-      step none e = (schedule_none e).1 ∙ ap length (lists_unique table (open_sequences table) qs listed all)
-      step (some q) e = let f = schedule_first q e in absurd (h q f.is_open f.is_full)
+      step None e = (schedule_none e).1 ∙ ap length (lists_unique table (open_sequences table) qs listed all)
+      step (Some q) e = let f = schedule_first q e in absurd (h q f.is_open f.is_full)
 
-  -- the openings are those of 01, in plain words
+  -- the openings are the number of open sequences up to and including the schedule, and of all of them where there is none
   pub openings_right : Openings table (openings table)
   openings_right = step (schedule table) refl
     where
       step : (o : Option (List ℕ)) → schedule table ≡ o → Openings table (openings table)
-      step none e = rw (schedule_none e).1 (Openings.all (schedule_none e).0 listed)
-      step (some q) e =
+      step None e = rw (schedule_none e).1 (Openings.all (schedule_none e).0 listed)
+      step (Some q) e =
           let f = schedule_first q e in
           let r = openings_first q f in
           rw r.3 (up_to r.0 r.1 f r.2)

@@ -7,7 +7,7 @@ use native.Mathlib.Omega.{arith}
 use mathlib.Core.Path.{◌≡◌, refl, sym, ap, ◌∙◌}
 use mathlib.Core.Bool.{Bool, true, false, cond}
 use mathlib.Core.List.{List, [], ◌∷◌, ◌++◌, map, map-append, Memᴰ}
-use mathlib.Core.Option.{Option, some}
+use Rattle.std.specs.Prelude.{Option, Some, None}
 use lib.Dec.{eqb, ltb}
 use lib.ListN.{length}
 use borrow.Author.Tests.{eqb-true, eqb-false, eq-eqb, ne_eqb, ltb-true, ltb-false, lt-ltb, le-ltb}
@@ -20,8 +20,6 @@ use Rattle.jobs.specs.Jobs.{numbers}
 use Rattle.jobs.specs.Arrays.{jobs_of}
 use Rattle.jobs.proofs.Sound.{numbers_member}
 use Rattle.search.specs.declared.State.{State}
-use Rattle.search.specs.declared.fit.Next.{Next}
-use Rattle.search.specs.declared.fit.Next.TheVariants.{Ends, Not}
 use Rattle.search.specs.Run.{free, run}
 use Rattle.search.specs.Live.{live}
 use Rattle.search.specs.Tree.{opens, try_each, open_from, open_sequences, first_full, up_to_full, schedule, openings}
@@ -50,8 +48,8 @@ module _ (table : List JobRecord) (sound : Sound table) where
   module _ (q : List ℕ) (o : Open table q) (below : State → List Node) (from : List ℕ → List (List ℕ))
       (same : (k : ℕ) → Memᴰ k (numbers table) → opens table q k ≡ true → below (state_of table (k ∷ q)) ≡ map (to_node table) (from (k ∷ q))) where
     -- what is found of one candidate, before what is found of those after it
-    abbrev chosen : ℕ → List Node → Next → List Node
-    chosen k later x = elim x as (λ y. List Node) [ Ends e ↦ below (place_at (state_of table q) k e (length q)) ++ later | Not ↦ later ]
+    abbrev chosen : ℕ → List Node → Option ℕ → List Node
+    chosen k later x = elim x as (λ y. List Node) [ Some e ↦ below (place_at (state_of table q) k e (length q)) ++ later | None ↦ later ]
 
     -- trying each of some numbers gives the states of the sequences that trying those of the table's jobs gives
     tried_same : (ks : List ℕ) → ((k : ℕ) → Memᴰ k ks → k < 48)
@@ -67,7 +65,7 @@ module _ (table : List JobRecord) (sound : Sound table) where
         below48 = small k (Memᴰ.head refl)
 
         opening : (t : Bool) → opens table q k ≡ t → Memᴰ k (numbers table)
-            → chosen k (map (to_node table) later) (cond t (Ends (free (run table (k ∷ q)))) Not) ≡ map (to_node table) (elim t [ true ↦ from (k ∷ q) ++ later | false ↦ later ])
+            → chosen k (map (to_node table) later) (cond t (Some (free (run table (k ∷ q)))) None) ≡ map (to_node table) (elim t [ true ↦ from (k ∷ q) ++ later | false ↦ later ])
         opening true e known = ap (λ (l : List Node). l ++ map (to_node table) later) (same k known e) ∙ sym (map-append (to_node table) (from (k ∷ q)) later)
         opening false e known = refl
 
@@ -116,7 +114,7 @@ module _ (table : List JobRecord) (sound : Sound table) where
     unfolding up_to_full
     up_on e = rw (up_to_full, ne_eqb (length q) jobs e)
 
-    first_full_lem : length q ≡ jobs → first_full jobs (q ∷ qs) ≡ some q
+    first_full_lem : length q ≡ jobs → first_full jobs (q ∷ qs) ≡ Some q
     unfolding first_full
     first_full_lem e = rw (first_full, eq-eqb (length q) jobs e)
 

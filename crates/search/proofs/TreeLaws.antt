@@ -11,8 +11,9 @@ use Rattle.laws.proofs.Counting.{count_more, count_end}
 use Rattle.records.specs.Outcome.{Outcome, done, refused, overwrite}
 use Rattle.search.specs.declared.State.{State}
 use Rattle.search.specs.declared.Found.{Found}
-use Rattle.search.specs.declared.fit.Next.TheVariants.{Ends, Not}
-use Rattle.search.specs.State.{Given, next_at, place_at, slots_in, Node, node, try_each_at, states_from, opened, tried, walk, Answers}
+use Rattle.search.specs.declared.Found.TheVariants.{Schedule, Nothing, Spent}
+use Rattle.std.specs.Prelude.{Some, None}
+use Rattle.search.specs.State.{Given, next_at, place_at, slots_in, Node, node, try_each_at, states_from, opened, tried, walk, number_of, Answers}
 
 -- the tree, a step at a time
 module _ (g : Given) (s : State) (d : ℕ) where
@@ -36,11 +37,11 @@ module _ (g : Given) (s : State) (d : ℕ) where
     unfolding tried try_each_at
     tried_none h = rw (count_end k g.limit h)
 
-    tried_ends : (e : ℕ) → k < g.limit → next_at g s k ≡ Ends e → tried g s d k ≡ opened g (place_at s k e d) (d + 1) ++ tried g s d (k + 1)
+    tried_ends : (e : ℕ) → k < g.limit → next_at g s k ≡ Some e → tried g s d k ≡ opened g (place_at s k e d) (d + 1) ++ tried g s d (k + 1)
     unfolding tried try_each_at
     tried_ends e h l = rw (count_more k g.limit h, try_each_at, l)
 
-    tried_not : k < g.limit → next_at g s k ≡ Not → tried g s d k ≡ tried g s d (k + 1)
+    tried_not : k < g.limit → next_at g s k ≡ None → tried g s d k ≡ tried g s d (k + 1)
     unfolding tried try_each_at
     tried_not h l = rw (count_more k g.limit h, try_each_at, l)
 
@@ -91,53 +92,60 @@ module _ (g : Given) (budget : ℕ) where
       step : (p q : Bool) → (seen x n (walk g budget xs (n + 1)) p q).number ≡ 10 → ((walk g budget xs (n + 1)).number ≡ 10 → (walk g budget xs (n + 1)).bytes ≡ [])
           → (seen x n (walk g budget xs (n + 1)) p q).bytes ≡ []
       step true q h ih = refl
-      step false true h ih = let z : ◌≡◌ {A = ℕ} 0 10 = h in absurd (omega arith)
+      step false true h ih = absurd (omega (arith, h))
       step false false h ih = ih h
 
--- what an answer says of a search through two lists, from what answers say of the parts
-answers_stop : (o : Outcome) (more : ℕ → Outcome) (r : Found) (before after : List ℕ) → Answers o r before after → (r.number ≡ 10 → ⊥) → Answers (go_on o more) r before after
-answers_stop o more r before after a z = rw (ne_eqb o.number 10 (λ e. z (a.number ∙ e))) a
+-- an answer that is not of the kind that goes on
+some_found : (r : Found) → ((m : ℕ) → r ≡ Nothing m → ⊥) → number_of r ≡ 10 → ⊥
+some_found (Schedule m) h e = absurd (omega (arith, e))
+some_found (Nothing m) h e = h m refl
+some_found (Spent m) h e = absurd (omega (arith, e))
 
-answers_next : (o : Outcome) (more : ℕ → Outcome) (r q : Found) (before between after : List ℕ) → Answers o r before between → (o.number ≡ 10 → o.bytes ≡ [])
-    → r.number ≡ 10 → Answers (more r.openings) q between after → Answers (go_on o more) q before after
-answers_next o more r q before between after a none z b =
-    let ten : o.number ≡ 10 = sym a.number ∙ z in
-    let kept : between ≡ before = a.output ∙ ap (λ bytes. overwrite bytes before) (none ten) in
-    rw (eq-eqb o.number 10 ten, ← a.openings, ← kept) b
-
-module _ (g : Given) (s : State) (d b n : ℕ) (r : Found) (before after : List ℕ) where
+module _ (g : Given) (s : State) (d b n : ℕ) where
   -- what each return of `open` shows
-  pub open_spent : n ≡ b → r.number ≡ 11 → r.openings ≡ b → after ≡ before → Answers (walk g b (opened g s d) n) r before after
-  open_spent h number openings output =
-      let e = opened_some g s d in
-      rw (e.1, walk_spent g b (node s d) e.0 n h) record { number = number; openings = openings; output = output }
+  module _ (before : List ℕ) where
+    pub open_spent : n ≡ b → Answers (walk g b (opened g s d) n) (Spent n) before before
+    open_spent h =
+        let e = opened_some g s d in
+        rw (e.1, walk_spent g b (node s d) e.0 n h) record { number = refl; openings = h; output = refl }
 
-  pub open_full : (n ≡ b → ⊥) → d ≡ g.count → r.number ≡ 0 → r.openings ≡ n + 1 → after ≡ overwrite (slots_in g.cost s.order s.ends g.count) before
-      → Answers (walk g b (opened g s d) n) r before after
-  open_full h f number openings output =
-      let e = opened_some g s d in
-      rw (e.1, walk_full g b (node s d) e.0 n h f) record { number = number; openings = openings; output = output }
+    pub open_full : (after : List ℕ) → (n ≡ b → ⊥) → d ≡ g.count → after ≡ overwrite (slots_in g.cost s.order s.ends g.count) before
+        → Answers (walk g b (opened g s d) n) (Schedule (n + 1)) before after
+    open_full after h f output =
+        let e = opened_some g s d in
+        rw (e.1, walk_full g b (node s d) e.0 n h f) record { number = refl; openings = refl; output = output }
 
-  pub open_on : (n ≡ b → ⊥) → d < g.count → Answers (walk g b (tried g s d 0) (n + 1)) r before after → Answers (walk g b (opened g s d) n) r before after
-  open_on h l a = rw (opened_step g s d l, walk_on g b (node s d) (tried g s d 0) n h (λ e. omega arith)) a
+    pub open_on : (r : Found) (after : List ℕ) → (n ≡ b → ⊥) → d < g.count → Answers (walk g b (tried g s d 0) (n + 1)) r before after
+        → Answers (walk g b (opened g s d) n) r before after
+    open_on r after h l a = rw (opened_step g s d l, walk_on g b (node s d) (tried g s d 0) n h (λ e. omega arith)) a
 
+  -- what each turn of the loop of `try_next` and each of its returns shows
   module _ (k : ℕ) where
-    -- what each return of `try_next` shows
-    pub next_none : g.limit ≤ k → r.number ≡ 10 → r.openings ≡ n → after ≡ before → Answers (walk g b (tried g s d k) n) r before after
+    pub next_none : (before : List ℕ) → g.limit ≤ k → Answers (walk g b (tried g s d k) n) (Nothing n) before before
     unfolding walk
-    next_none h number openings output = rw (tried_none g s d k h) record { number = number; openings = openings; output = output }
+    next_none before h = rw (tried_none g s d k h) record { number = refl; openings = refl; output = refl }
 
-    module _ (t : State) (e : ℕ) (l : k < g.limit) (ends : next_at g s k ≡ Ends e) (placed : t ≡ place_at s k e d) where
-      pub next_stop : (r.number ≡ 10 → ⊥) → Answers (walk g b (opened g t (d + 1)) n) r before after → Answers (walk g b (tried g s d k) n) r before after
-      next_stop z a = rw (tried_ends g s d k e l ends, ← placed, walk_append) (answers_stop _ (walk g b (tried g s d (k + 1))) r before after a z)
+    module _ (l : k < g.limit) where
+      pub next_not : next_at g s k ≡ None → walk g b (tried g s d (k + 1)) n ≡ walk g b (tried g s d k) n
+      next_not e = rw (tried_not g s d k l e)
 
-      pub next_on : (q : Found) (between : List ℕ) → q.number ≡ 10 → Answers (walk g b (opened g t (d + 1)) n) q before between
-          → Answers (walk g b (tried g s d (k + 1)) q.openings) r between after → Answers (walk g b (tried g s d k) n) r before after
-      next_on q between z a c = rw (tried_ends g s d k e l ends, ← placed, walk_append) (answers_next _ (walk g b (tried g s d (k + 1))) q r before between after a (walk_none g b _ n) z c)
+      module _ (t : State) (e : ℕ) (ends : next_at g s k ≡ Some e) (placed : t ≡ place_at s k e d) (r : Found) (before after : List ℕ)
+          (a : Answers (walk g b (opened g t (d + 1)) n) r before after) where
+        pub next_stop : ((m : ℕ) → r ≡ Nothing m → ⊥) → Answers (walk g b (tried g s d k) n) r before after
+        next_stop h =
+            rw (tried_ends g s d k e l ends, ← placed, walk_append g b, ne_eqb (walk g b (opened g t (d + 1)) n).number 10 (λ z. some_found r h (a.number ∙ z))) a
 
--- the loop that skips the jobs that may not come next
-pub loop_not : (g : Given) (s : State) (d b n k : ℕ) → k < g.limit → next_at g s k ≡ Not → walk g b (tried g s d (k + 1)) n ≡ walk g b (tried g s d k) n
-loop_not g s d b n k h l = rw (tried_not g s d k h l)
+        module _ (m : ℕ) (nothing : r ≡ Nothing m) where
+          ten : (walk g b (opened g t (d + 1)) n).number ≡ 10
+          ten = sym a.number ∙ ap number_of nothing
+
+          pub next_on : walk g b (tried g s d (k + 1)) m ≡ walk g b (tried g s d k) n
+          next_on =
+              let found : m ≡ (walk g b (opened g t (d + 1)) n).openings = rw nothing at a.openings in
+              rw (tried_ends g s d k e l ends, ← placed, walk_append g b, eq-eqb (walk g b (opened g t (d + 1)) n).number 10 ten, found)
+
+          pub next_kept : after ≡ before
+          next_kept = a.output ∙ ap (λ bytes. overwrite bytes before) (walk_none g b (opened g t (d + 1)) n ten)
 
 -- an answer to an outcome is one to an equal outcome, with an equal output before
 pub answers_same : (o p : Outcome) (r : Found) (before begun after : List ℕ) → o ≡ p → before ≡ begun → Answers o r before after → Answers p r begun after

@@ -1,6 +1,5 @@
 -- What scheduling a table comes to: "Scheduling gives 0 to 5 and 7 to 11".
-use Rattle.std.specs.Prelude.{ℕ, ◌*◌, true, false, List, reverse, length, ltb}
-use Rattle.std.proofs.Math.Option.{Option, none, some}
+use Rattle.std.specs.Prelude.{ℕ, ◌*◌, true, false, List, reverse, length, ltb, Option, None, Some}
 use Rattle.records.specs.Record.{slot_bytes}
 use Rattle.records.specs.Table.{encode}
 use Rattle.records.specs.Outcome.{Outcome, refuse, done, refused, unless_refused}
@@ -23,8 +22,8 @@ slots_bytes table q = encode slot_bytes (reverse (run table q))
 
 -- "10 when no schedule exists, otherwise 0", with the count of openings
 unfoldable pub decided : List JobRecord → Option (List ℕ) → ℕ → Outcome
-decided table none opened = refused 10 opened
-decided table (some q) opened = done opened (slots_bytes table q)
+decided table None opened = refused 10 opened
+decided table (Some q) opened = done opened (slots_bytes table q)
 
 -- "the search decides: 11 when its openings would exceed the budget", and then the openings given are the budget
 unfoldable pub searched : List JobRecord → ℕ → Outcome

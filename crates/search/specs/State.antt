@@ -1,6 +1,6 @@
 -- The search on the state that the code hands on: what the code's contracts cite. A state says which jobs have run, in what order, when each ended, and when the core is free.
 -- The jobs are lists by number, as the code holds them; a number that no job has is marked as placed, so that "remaining" is "not placed".
-use Rattle.std.specs.Prelude.{ℕ, zero, suc, ◌+◌, ◌-◌, ◌<◌, ◌≤◌, max, ◌≡◌, Bool, true, false, cond, not, ◌&&◌, ◌||◌, List, [], ◌∷◌, ◌++◌, map, get_or, set, replicate, leb, ltb, eqb}
+use Rattle.std.specs.Prelude.{ℕ, zero, suc, ◌+◌, ◌-◌, ◌<◌, ◌≤◌, max, ◌≡◌, Bool, true, false, cond, not, ◌&&◌, ◌||◌, Option, Some, None, List, [], ◌∷◌, ◌++◌, map, get_or, set, replicate, leb, ltb, eqb}
 use Rattle.laws.specs.Lists.{all, keep, count, largest, total}
 use Rattle.records.specs.Record.{slot, slot_bytes}
 use Rattle.records.specs.Table.{encode}
@@ -12,10 +12,8 @@ use Rattle.jobs.specs.declared.Jobs.{Jobs}
 use Rattle.normal.specs.Chosen.{present_in}
 use Rattle.search.specs.declared.State.{State}
 use Rattle.search.specs.declared.Found.{Found}
-use Rattle.search.specs.declared.fit.Start.{Start}
-use Rattle.search.specs.declared.fit.Start.TheVariants.{At, NotYet}
-use Rattle.search.specs.declared.fit.Next.{Next}
-use Rattle.search.specs.declared.fit.Next.TheVariants.{Ends, Not}
+use Rattle.search.specs.declared.Found.TheVariants.{Schedule, Nothing, Spent}
+use Rattle.search.specs.declared.problem.Problem.{Problem}
 
 -- what stands at a job's number
 abbrev pub at : List ℕ → ℕ → ℕ
@@ -30,14 +28,9 @@ unfoldable pub linked : List ℕ → ℕ → List ℕ
 linked row limit = keep (λ i. ltb 0 (at row i)) (count 0 limit)
 
 -- when the links allow a job to start that could start at `first` but for them: not yet, if a job that it is linked from has not run
-unfoldable pub start_at : List ℕ → List Bool → List ℕ → ℕ → List ℕ → Start
+unfoldable pub start_at : List ℕ → List Bool → List ℕ → ℕ → List ℕ → Option ℕ
 start_at row placed ends first from =
-    cond (all (is_placed placed) from) (At (max first (largest (map (λ i. at ends i + (at row i - 1)) from)))) NotYet
-
--- a start is below a bound, if there is one
-abbrev pub StartBelow : ℕ → Start → Type 0
-StartBelow bound (At t) = t < bound
-StartBelow bound NotYet = Unit {0}
+    cond (all (is_placed placed) from) (Some (max first (largest (map (λ i. at ends i + (at row i - 1)) from)))) None
 
 -- a job remains after job k: it has not run, and is not k
 unfoldable pub remains_after : List Bool → ℕ → ℕ → Bool
@@ -62,15 +55,15 @@ rest_fits cost release deadline limit placed k t =
     && together_after t (total (map (at cost) (left placed k limit))) (largest (map (at deadline) (left placed k limit)))
 
 -- when job k ends that starts at `start`, if it ends by its deadline and the jobs that remain fit after it
-unfoldable pub ends_at : List ℕ → List ℕ → List ℕ → ℕ → List Bool → ℕ → Start → Next
-ends_at cost release deadline limit placed k NotYet = Not
-ends_at cost release deadline limit placed k (At t) =
-    cond (leb (t + at cost k) (at deadline k) && rest_fits cost release deadline limit placed k (t + at cost k)) (Ends (t + at cost k)) Not
+unfoldable pub ends_at : List ℕ → List ℕ → List ℕ → ℕ → List Bool → ℕ → Option ℕ → Option ℕ
+ends_at cost release deadline limit placed k None = None
+ends_at cost release deadline limit placed k (Some t) =
+    cond (leb (t + at cost k) (at deadline k) && rest_fits cost release deadline limit placed k (t + at cost k)) (Some (t + at cost k)) None
 
 -- when job k ends that runs next, if it has not run, its links allow it and the sequence with it is live; `row` has the links into it
-unfoldable pub opens_at : List ℕ → List ℕ → List ℕ → List ℕ → ℕ → List Bool → List ℕ → ℕ → ℕ → Next
+unfoldable pub opens_at : List ℕ → List ℕ → List ℕ → List ℕ → ℕ → List Bool → List ℕ → ℕ → ℕ → Option ℕ
 opens_at cost release deadline row limit placed ends free k =
-    cond (is_placed placed k) Not (ends_at cost release deadline limit placed k (start_at row placed ends (max free (at release k)) (linked row limit)))
+    cond (is_placed placed k) None (ends_at cost release deadline limit placed k (start_at row placed ends (max free (at release k)) (linked row limit)))
 
 -- the jobs as the code holds them: by number what each costs, its window and the links into it; one more than the largest number; and how many there are
 pub record Given : Type 0 where
@@ -85,8 +78,25 @@ pub record Given : Type 0 where
 abbrev pub given : List ℕ → List ℕ → List ℕ → List (List ℕ) → ℕ → ℕ → Given
 given c r d i limit n = record { cost = c; release = r; deadline = d; into = i; limit = limit; count = n }
 
+-- those jobs as the code is handed them
+abbrev pub given_of : Problem → Given
+given_of p = given p.jobs.now.cost p.jobs.now.release p.jobs.now.deadline p.into.now p.limit p.count
+
+-- when job k may start after a state that could start at `first` but for its links
+abbrev pub start_next : Given → State → ℕ → ℕ → Option ℕ
+start_next g s k first = start_at (get_or g.into k []) s.placed s.ends first (linked (get_or g.into k []) g.limit)
+
+-- a job's number, or 48, which no job has, where there is no job
+abbrev pub number_or_none : Option ℕ → ℕ
+number_or_none (Some k) = k
+number_or_none None = 48
+
+-- the jobs that remain after job k, where those marked have run, fit after t
+abbrev pub rest_after : Given → List Bool → ℕ → ℕ → Bool
+rest_after g placed k t = rest_fits g.cost g.release g.deadline g.limit placed k t
+
 -- when job k ends that runs next after a state
-abbrev pub next_at : Given → State → ℕ → Next
+abbrev pub next_at : Given → State → ℕ → Option ℕ
 next_at g s k = opens_at g.cost g.release g.deadline (get_or g.into k []) g.limit s.placed s.ends s.free k
 
 -- the state with job k run next, at the place `depth`, until `end`
@@ -131,8 +141,8 @@ unfoldable pub try_each_at : Given → (State → List Node) → State → ℕ �
 try_each_at g below s d [] = []
 try_each_at g below s d (k ∷ ks) =
     elim (next_at g s k) [
-      | Ends e ↦ below (place_at s k e d) ++ try_each_at g below s d ks
-      | Not ↦ try_each_at g below s d ks
+      | Some e ↦ below (place_at s k e d) ++ try_each_at g below s d ks
+      | None ↦ try_each_at g below s d ks
     ]
 
 -- a state that has run d jobs and all that go on from it by at most n jobs, each before those that go on from it
@@ -168,8 +178,20 @@ opening g budget s d n = walk g budget (opened g s d) n
 abbrev pub trying : Given → ℕ → State → ℕ → ℕ → ℕ → Outcome
 trying g budget s d k n = walk g budget (tried g s d k) n
 
+-- the number of what was found: 0 for the schedule, 10 where there is none, 11 where the budget is spent
+abbrev pub number_of : Found → ℕ
+number_of (Schedule n) = 0
+number_of (Nothing n) = 10
+number_of (Spent n) = 11
+
+-- how many sequences were opened
+abbrev pub openings_of : Found → ℕ
+openings_of (Schedule n) = n
+openings_of (Nothing n) = n
+openings_of (Spent n) = n
+
 -- the code's answer, and the output before and after the call, are those of an outcome
 pub record Answers (o : Outcome) (r : Found) (before after : List ℕ) : Type 0 where
-  pub number : r.number ≡ o.number
-  pub openings : r.openings ≡ o.openings
+  pub number : number_of r ≡ o.number
+  pub openings : openings_of r ≡ o.openings
   pub output : after ≡ overwrite o.bytes before

@@ -1,6 +1,5 @@
 -- The open sequences in the order of words, the schedule among them, and the openings.
-use Rattle.std.specs.Prelude.{ℕ, zero, suc, ◌+◌, Bool, true, false, ◌&&◌, List, [], ◌∷◌, ◌++◌, length, eqb}
-use Rattle.std.proofs.Math.Option.{Option, none, some}
+use Rattle.std.specs.Prelude.{ℕ, zero, suc, ◌+◌, Bool, true, false, ◌&&◌, List, [], ◌∷◌, ◌++◌, length, eqb, Option, None, Some}
 use Rattle.records.specs.declared.JobRecord.{JobRecord}
 use Rattle.jobs.specs.Jobs.{numbers}
 use Rattle.search.specs.Run.{may_follow}
@@ -31,8 +30,8 @@ full n q = eqb (length q) n
 
 -- "the first open sequence that holds all jobs"
 unfoldable pub first_full : ℕ → List (List ℕ) → Option (List ℕ)
-first_full n [] = none
-first_full n (q ∷ qs) = elim (full n q) [ true ↦ some q | false ↦ first_full n qs ]
+first_full n [] = None
+first_full n (q ∷ qs) = elim (full n q) [ true ↦ Some q | false ↦ first_full n qs ]
 
 -- "the number of open sequences up to and including it; when there is none, the number of all open sequences"
 unfoldable pub up_to_full : ℕ → List (List ℕ) → ℕ

@@ -1,144 +1,80 @@
 // The test for live: when a job could start next, and whether the jobs that remain fit after it.
-ghost use Rattle.std.specs.Prelude.{◌≡◌, ◌+◌, ◌<◌, ◌≤◌, max};
-ghost use Rattle.search.specs.State.{linked, start_at, StartBelow, remains_after, fits_after, rest_fits, opens_at};
+ghost use Rattle.std.specs.Prelude.{◌≡◌, ◌<◌, IfSome};
+ghost use Rattle.search.specs.State.{given_of, start_next, fits_after, rest_after, number_or_none, next_at};
 
-// When a job may start.
-#[derive(Clone, Copy)]
-pub enum Start {
-    At(u32),
-    NotYet,
-}
+use crate::State;
+use crate::problem::Problem;
 
-// When a job that may come next ends.
-#[derive(Clone, Copy)]
-pub enum Next {
-    Ends(u16),
-    Not,
-}
-
-// A time as a wider number, in which the sum of some fits.
-fn wide(x: u16) -> u32
-    ensures { (result ≡ x) × (result < 65536) }
-{
-    x as u32
-}
-
-// The larger of two times.
-fn larger(a: u32, b: u32) -> u32
-    ensures { result ≡ max a b }
-{
-    if a < b {
-        return b;
-    }
-    a
-}
-
-// When a job may start that could start at `first` but for its links: the row `into` holds one more than the latency of the link from each job.
-fn start_after<'a>(
-    into: &[u16; 48],
-    limit: usize,
-    placed: &'a [bool; 48],
-    ends: &'a [u16; 48],
-    first: u32,
-) -> Start
-    requires { (limit ≤ 48) × (first < 131072) }
-    ensures value { result ≡ start_at into.now placed.now ends.now first (linked into.now limit) }
-    ensures start_below { StartBelow 131072 result }
-{
-    let mut t = first;
-    let mut i: usize = 0;
-    while i < limit {
-        let latency = wide(into[i]);
-        if latency != 0 {
-            if !placed[i] {
-                return Start::NotYet;
+impl<'a> Problem<'a> {
+    // When job k may start that could start at `first` but for its links: not yet, if a job that it is linked from has not run.
+    #[tactic(auto, using(crate::proofs::FitLaws::start_laws))]
+    fn start_after(&self, s: &State, k: usize, first: u32) -> Option<u32>
+        requires { (k < 48) × (first < 131072) }
+        ensures value { result ≡ start_next (given_of self.now) s.now k first }
+        ensures start_below { IfSome result (λ start. start < 131072) }
+    {
+        let mut start = first;
+        for i in 0..self.limit {
+            let link = u32::from(self.into[k][i]);
+            if link != 0 {
+                if !s.placed[i] {
+                    return None;
+                }
+                start = start.max(u32::from(s.ends[i]) + (link - 1));
             }
-            t = larger(t, wide(ends[i]) + (latency - 1));
         }
-        i += 1;
+        Some(start)
     }
-    Start::At(t)
-}
 
-// Job m remains after job k.
-fn remains(placed: &[bool; 48], k: usize, m: usize) -> bool
-    requires { m < 48 }
-    ensures { result ≡ remains_after placed.now k m }
-{
-    if m == k {
-        return false;
+    // Job m, run by itself, fits after the time t.
+    #[tactic(auto, unfolding(crate::specs::State::fits_after))]
+    fn fits_alone(&self, t: u32, m: usize) -> bool
+        requires { (m < 48) × (t < 65536) }
+        ensures { result ≡ fits_after self.now.jobs.now.cost self.now.jobs.now.release self.now.jobs.now.deadline t m }
+    {
+        t.max(u32::from(self.jobs.release[m])) + u32::from(self.jobs.cost[m])
+            <= u32::from(self.jobs.deadline[m])
     }
-    !placed[m]
-}
 
-// Job m, run by itself, fits after the time t.
-fn fits_alone(cost: &[u16; 48], release: &[u16; 48], deadline: &[u16; 48], t: u32, m: usize) -> bool
-    requires { (m < 48) × (t < 65536) }
-    ensures { result ≡ fits_after cost.now release.now deadline.now t m }
-{
-    larger(t, wide(release[m])) + wide(cost[m]) <= wide(deadline[m])
-}
-
-// The jobs that remain after job k fit after the time t: each by itself, and all together. Costs are above 0, so that their sum is 0 where none remain.
-pub fn rest_fits(
-    cost: &[u16; 48],
-    release: &[u16; 48],
-    deadline: &[u16; 48],
-    limit: usize,
-    placed: &[bool; 48],
-    k: usize,
-    t: u32,
-) -> bool
-    requires { (limit ≤ 48) × (t < 65536) }
-    ensures { result ≡ rest_fits cost.now release.now deadline.now limit placed.now k t }
-{
-    let mut costs: u32 = 0;
-    let mut last: u32 = 0;
-    let mut m: usize = 0;
-    while m < limit {
-        if remains(placed, k, m) {
-            if !fits_alone(cost, release, deadline, t, m) {
-                return false;
+    // The jobs that remain after the last one, if there is one, fit after the time t: each by itself, and all together.
+    // Costs are above 0, so that their sum is 0 where none remain.
+    #[tactic(auto, using(crate::proofs::FitLaws::rest_laws), unfolding(crate::specs::State::together_after))]
+    pub fn rest_fits(&self, placed: &[bool; 48], last_job: Option<usize>, t: u32) -> bool
+        requires { t < 65536 }
+        ensures { result ≡ rest_after (given_of self.now) placed.now (number_or_none last_job) t }
+    {
+        let mut costs = 0u32;
+        let mut last = 0u32;
+        for m in 0..self.limit {
+            if last_job != Some(m) && !placed[m] {
+                if !self.fits_alone(t, m) {
+                    return false;
+                }
+                costs += u32::from(self.jobs.cost[m]);
+                last = last.max(u32::from(self.jobs.deadline[m]));
             }
-            costs += wide(cost[m]);
-            last = larger(last, wide(deadline[m]));
         }
-        m += 1;
+        costs == 0 || t + costs <= last
     }
-    if costs == 0 {
-        return true;
-    }
-    t + costs <= last
-}
 
-// When job k ends, if it may come next and what it makes of the sequence is live. `into` is its row of links.
-pub fn opens_at<'a>(
-    cost: &[u16; 48],
-    release: &[u16; 48],
-    deadline: &[u16; 48],
-    into: &[u16; 48],
-    limit: usize,
-    placed: &'a [bool; 48],
-    ends: &'a [u16; 48],
-    free: u16,
-    k: usize,
-) -> Next
-    requires { (limit ≤ 48) × (k < 48) }
-    ensures { result ≡ opens_at cost.now release.now deadline.now into.now limit placed.now ends.now free k }
-{
-    if placed[k] {
-        return Next::Not;
+    // When job k ends, if it may come next and what it makes of the sequence is live.
+    #[tactic(auto, unfolding(crate::specs::State::opens_at, crate::specs::State::ends_at))]
+    pub fn opens_at(&self, s: &State, k: usize) -> Option<u16>
+        requires { k < 48 }
+        ensures { result ≡ next_at (given_of self.now) s.now k }
+    {
+        if s.placed[k] {
+            return None;
+        }
+        let first = u32::from(s.free).max(u32::from(self.jobs.release[k]));
+        let start = self.start_after(s, k, first)?;
+        let end = start + u32::from(self.jobs.cost[k]);
+        if u32::from(self.jobs.deadline[k]) < end {
+            return None;
+        }
+        if !self.rest_fits(&s.placed, Some(k), end) {
+            return None;
+        }
+        Some(end as u16)
     }
-    let first = larger(wide(free), wide(release[k]));
-    let Start::At(start) = start_after(into, limit, placed, ends, first) else {
-        return Next::Not;
-    };
-    let end = start + wide(cost[k]);
-    if wide(deadline[k]) < end {
-        return Next::Not;
-    }
-    if !rest_fits(cost, release, deadline, limit, placed, k, end) {
-        return Next::Not;
-    }
-    Next::Ends(end as u16)
 }

@@ -10,14 +10,13 @@ ghost use Rattle.normal.specs.Chosen.{present_in};
 ghost use Rattle.search.specs.Call.{searched};
 ghost use Rattle.search.specs.State.{limit_of, links_into, Answers};
 
+use crate::problem::Problem;
 use jobs::Jobs;
 use normal::write::count_jobs;
 
 pub mod fit;
+pub mod problem;
 pub mod tree;
-
-// No job has this number.
-const NO_JOB: usize = 48;
 
 // Which jobs have run, in what order, when each of them ended, and when the core is free. A number that no job has is marked as placed.
 #[derive(Clone, Copy)]
@@ -28,47 +27,29 @@ pub struct State {
     pub free: u16,
 }
 
-// What bounds a search: the job numbers are below `limit`, there are `count` jobs, and at most `budget` sequences are opened.
+// What a search finds, and how many sequences it opened: the schedule, whose slots it wrote; that there is none; or that the budget is spent.
 #[derive(Clone, Copy)]
-pub struct Bounds {
-    pub limit: usize,
-    pub count: usize,
-    pub budget: u32,
-}
-
-// What a search answers: 0 with the slots written, 10 or 11, and the openings.
-#[derive(Clone, Copy)]
-pub struct Found {
-    pub number: u32,
-    pub openings: u32,
+pub enum Found {
+    Schedule { openings: u32 },
+    Nothing { openings: u32 },
+    Spent { openings: u32 },
 }
 
 // The numbers that no job has.
 fn absent(present: [bool; 48]) -> [bool; 48]
     ensures { result ≡ map not present }
 {
-    let mut marks = present;
-    let mut k: usize = 0;
-    while k < 48 {
-        marks[k] = !marks[k];
-        k += 1;
-    }
-    marks
+    present.map(|p| !p)
 }
 
 // One more than the largest job number.
-fn limit_of(jobs: Jobs) -> usize
-    ensures { (result ≡ limit_of jobs) × (result ≤ 48) }
+fn limit_of(jobs: &Jobs) -> usize
+    ensures { (result ≡ limit_of jobs.now) × (result ≤ 48) }
 {
-    let mut limit: usize = 0;
-    let mut k: usize = 0;
-    while k < 48 {
-        if jobs.present[k] {
-            limit = k + 1;
-        }
-        k += 1;
+    match jobs.present.iter().rposition(|p| *p) {
+        Some(last) => last + 1,
+        None => 0,
     }
-    limit
 }
 
 // The search under a budget on a normal form, given as its jobs by number and, by number too, the links into each job: `into[k][i]` is one more than the latency
@@ -77,29 +58,22 @@ pub fn search(jobs: Jobs, into: &[[u16; 48]; 48], budget: u32, out: &mut [u8]) -
     requires { 12 * length (present_in jobs) ≤ length out.old }
     ensures { (table : List JobRecord) → Sound table → jobs ≡ jobs_of table → into.now ≡ links_into table → Answers (searched table budget) result out.old out.new }
 {
-    let present = jobs.present;
-    let cost = jobs.cost;
-    let release = jobs.release;
-    let deadline = jobs.deadline;
-    let limit = limit_of(jobs);
-    let count = count_jobs(jobs);
-    let placed = absent(present);
-    if !fit::rest_fits(&cost, &release, &deadline, limit, &placed, NO_JOB, 0) {
-        return Found {
-            number: 10,
-            openings: 0,
-        };
+    let problem = Problem {
+        jobs: &jobs,
+        into,
+        limit: limit_of(&jobs),
+        count: count_jobs(jobs),
+        budget,
+    };
+    let placed = absent(jobs.present);
+    if !problem.rest_fits(&placed, None, 0) {
+        return Found::Nothing { openings: 0 };
     }
-    let s = State {
+    let begun = State {
         placed,
         order: [0; 48],
         ends: [0; 48],
         free: 0,
     };
-    let b = Bounds {
-        limit,
-        count,
-        budget,
-    };
-    tree::open(&cost, &release, &deadline, into, b, s, 0, 0, out)
+    problem.open(begun, 0, 0, out)
 }

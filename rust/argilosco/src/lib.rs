@@ -1,6 +1,6 @@
 //! The safe wrapper over the proved library's C calls.
 //!
-//! Each call reads a table and writes into the output it is lent; the numbers are document 01's.
+//! Each call reads a table and writes into the output it is lent; the numbers are those of docs/FORMAT.md.
 //! Nothing checks these declarations against the library's source: keep them next to
 //! `include/argilosco.h`, which says the same for C.
 

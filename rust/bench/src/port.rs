@@ -45,7 +45,7 @@ impl Port {
         Port { count: normal.jobs.len(), cost, release, deadline, before, budget, openings: 0 }
     }
 
-    /// 01's number for the search, and the last job of the schedule if there is one.
+    /// The search's number, and the last job of the schedule if there is one.
     pub fn run(&mut self) -> (u32, u8) {
         let empty = State { placed: [false; MOST], order: [0; MOST], ends: [0; MOST], depth: 0, free: 0 };
         match self.open(empty) {

@@ -10,7 +10,7 @@ pub struct Seen {
     pub openings: u32,
 }
 
-/// A call on both sides, with the numbers that 01 lets it give back.
+/// A call on both sides, with the numbers that it may give back.
 /// The budget is used by scheduling alone; the library is lent an output, the second program a room.
 #[derive(Clone, Copy)]
 pub struct Call {

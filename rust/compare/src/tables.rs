@@ -3,7 +3,7 @@
 use crate::random::Random;
 use second::records::{flow, job, link, pass, Record};
 
-/// The values at which a limit of 01 turns, in a 16-bit field and in a number's byte.
+/// The values at which a limit turns, in a 16-bit field and in a number's byte.
 const EDGES: [u16; 14] = [0, 1, 23, 24, 47, 48, 49, 940, 960, 47_999, 48_000, 48_001, 65_534, 65_535];
 const NUMBERS: [u8; 7] = [0, 1, 23, 24, 47, 48, 200];
 

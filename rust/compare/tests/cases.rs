@@ -1,5 +1,5 @@
-//! 01's cases A to L and the rows that tell misreadings apart, asked of the second program and of every
-//! library call that is switched on. Every expected value is written by hand from 01.
+//! The cases A to L and the rows that tell misreadings apart, asked of the second program and of every
+//! library call that is switched on. Every expected value is written by hand.
 
 use compare::calls::{EXPAND, NORMALISE, SCHEDULE};
 use compare::check::agreed;

@@ -1,5 +1,5 @@
 //! Both sides of each refusal, asked of the second program and of every library call that is switched on.
-//! Every expected number is written by hand from 01.
+//! Every expected number is written by hand.
 
 use compare::calls::{EXPAND, NORMALISE, SCHEDULE};
 use compare::check::agreed;

@@ -1,6 +1,6 @@
-//! The second program: document 01's three operations once more, to compare the library with.
+//! The second program: the three operations once more, to compare the library with.
 //!
-//! It is written from 01 alone and in another shape: vectors, sorting, longest chains found depth
+//! It is written from the rules alone and in another shape: vectors, sorting, longest chains found depth
 //! first, open sequences counted as they are defined. It is meant to be read, not to be fast.
 
 mod expand;
@@ -12,10 +12,10 @@ pub use expand::expand;
 pub use normalise::{normal_form, normalise, Normal};
 pub use schedule::schedule;
 
-/// One of 01's numbers 1 to 9.
+/// One of the refusals' numbers 1 to 9.
 pub type Refusal = u32;
 
-/// What a call gives back: 01's number, the bytes for the front of the output, the openings.
+/// What a call gives back: the number, the bytes for the front of the output, the openings.
 #[derive(Clone, Debug, PartialEq, Eq)]
 pub struct Answer {
     pub number: u32,

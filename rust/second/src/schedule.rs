@@ -88,7 +88,7 @@ impl Search<'_> {
         Some(start)
     }
 
-    /// 01's three conditions. Every beginning is live, so of the jobs that ran only the last is tested.
+    /// The three conditions. Every beginning is live, so of the jobs that ran only the last is tested.
     fn live(&self) -> bool {
         let t = self.free();
         let jobs = &self.normal.jobs;

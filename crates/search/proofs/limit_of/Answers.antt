@@ -1,24 +1,10 @@
--- `search::limit_of` meets its contract: the larger of the limit of the numbers below k and that of those from k on stays the same. Assumes nothing.
-use mathlib.Core.Path.{◌∙◌}
-use native.Mathlib.Omega.{arith}
-use borrow.Author.Rules.{rules}
-use Rattle.search.proofs.MarkLaws.{limit_start, limit_done, limit_skip, limit_on}
+-- `limit_of` meets its contract: the last mark is that of the largest number. Assumes nothing.
+use Rattle.std.proofs.Common.{rules}
+use Rattle.search.proofs.MarkLaws.{limit_last, limit_none}
 use Rattle.search.proofs.limit_of.Goals as goal
-use Rattle.search.proofs.limit_of.Goals.{then-jobs-k, else-jobs-k}
 
-pub loop-k-init : goal.loop-k-init
-loop-k-init c = (search rules, search rules, limit_start _)
+pub returns-in-Some : goal.returns-in-Some
+returns-in-Some c = (limit_last _ _ (search rules) (search rules) (search rules), search rules)
 
-pub loop-k-preserved : goal.loop-k-preserved
-loop-k-preserved c = (
-  search rules,
-  elim c.if-jobs-k.branch [ then-jobs-k w ↦ omega arith | else-jobs-k w ↦ omega arith ],
-  elim c.if-jobs-k.branch [
-    | then-jobs-k w ↦ limit_on _ _ _ _ c.loop-k-test.true w.limit-is c.loop-k.invariant.1 w.if-jobs-k.true
-    | else-jobs-k w ↦ limit_skip _ _ _ _ c.loop-k-test.true w.limit-is w.if-jobs-k.false
-  ]
-      ∙ c.loop-k.invariant.2,
-)
-
-pub returns : goal.returns
-returns c = (limit_done _ _ _ c.loop-k-test.false ∙ c.loop-k.invariant.2, search rules)
+pub returns-in-None : goal.returns-in-None
+returns-in-None c = (limit_none _ (search rules), search rules)

@@ -7,17 +7,11 @@ use Rattle.laws.proofs.Filling.{filled_more, filled_all}
 use Rattle.normal.specs.Chosen.{chosen}
 use Rattle.normal.proofs.choose.choose.Goals as goal
 
-pub loop-i-init : goal.loop-i-init
-loop-i-init c = (search rules, search rules, λ i h. absurd (omega arith))
-
-pub choose_row-requires : goal.choose_row-requires
-choose_row-requires c = c.requires c.loop-i.i
-
 pub loop-i-preserved : goal.loop-i-preserved
-loop-i-preserved c = (search rules, search rules, filled_more [] _ c.loop-i.i c.loop-i.links c.loop-i.invariant.2 (omega arith) c.choose_row.ensures)
+loop-i-preserved c = (search rules, filled_more [] _ c.loop-i.i c.loop-i.links c.loop-i.invariant.1 (omega arith) c.choose_row.ensures)
 
 pub returns : goal.returns
 unfolding chosen
 returns c =
     let end : c.loop-i.i ≡ 48 = omega arith in
-    filled_all [] _ 48 _ c.loop-i.invariant.1 (rw end at c.loop-i.invariant.2)
+    filled_all [] _ 48 _ c.loop-i.invariant.0 (rw end at c.loop-i.invariant.1)

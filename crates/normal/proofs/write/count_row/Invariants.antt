@@ -1,13 +1,10 @@
--- `normal::write::count_row` meets its contract. The loop's invariant: the links counted and those to the jobs from j on are all. Assumes nothing.
-use Prim.Native.Nat.{◌+◌, ◌≤◌, ◌-◌}
+-- `normal::write::count_row` meets its contract. The loop's invariant: the links counted are those of the cells so far. Assumes nothing.
 use mathlib.Core.Path.{◌≡◌}
-use lib.ListN.{length}
-use Rattle.normal.specs.Chosen.{row_links}
-use Rattle.normal.proofs.RecordsFrom.{row_from}
+use mathlib.Core.Bool.{not}
+use lib.Dec.{eqb}
+use lib.ListN.{take}
+use Rattle.std.specs.List.{count_by}
 use Rattle.normal.proofs.write.count_row.Given as goal
 
-abbrev pub invariant-loop-j : goal.invariant-loop-j
-invariant-loop-j l = (l.j ≤ 48) × (l.count ≤ l.j) × (l.count + length (row_from l.links l.i l.j) ≡ length (row_links l.links l.i))
-
-abbrev pub decreases-loop-j : goal.decreases-loop-j
-decreases-loop-j l = 48 - l.j
+abbrev pub invariant-loop-cell : goal.invariant-loop-cell
+invariant-loop-cell l = l.count ≡ count_by (λ n. not (eqb n 0)) (take l.cell-index l.row)

@@ -1,25 +1,32 @@
--- `passes::cycle::cycle_of` meets its contract. The loop's invariant: the whole cycle is that of the passes from `number` on, from the cycle found so far.
--- Assumes nothing.
-use mathlib.Core.Path.{ap}
-use borrow.Author.Rules.{rules}
-use Rattle.passes.specs.Expand.{cycle_from}
-use Rattle.passes.proofs.Numbers.{from_none}
-use Rattle.passes.proofs.Ceiling.{cycle_passed, cycle_more, cycle_end, joined_above}
+-- `passes::cycle::cycle_of` meets its contract: a pass joins the cycle, and where none stands it stays. Assumes nothing.
+use Prim.Native.Nat.{◌+◌, ◌<◌}
+use native.Mathlib.Omega.{arith}
+use mathlib.Core.Path.{◌≡◌, ◌∙◌, sym}
+use Rattle.passes.specs.Expand.{lcm}
+use Rattle.passes.proofs.Ceiling.{kept_within, none_over, limit_passed, cycle_absent, cycle_present}
+use Rattle.passes.proofs.Multiples.{lcm_from}
+use Rattle.passes.proofs.Numbers.{passes_from, cycle_from_lem}
 use Rattle.passes.proofs.cycle.cycle_of.Goals as goal
+use Rattle.passes.proofs.cycle.cycle_of.Goals.{in-Some+in_ok-cycle, in_default}
 
-pub loop-number-init : goal.loop-number-init
-loop-number-init c = (search rules, search rules, search rules, ap (cycle_from 1) (from_none _))
+pub returns-in_err-cycle : goal.returns-in_err-cycle
+returns-in_err-cycle c =
+    let passes = c.args.passes.now in
+    let turn = c.loop-held in
+    let joined = lcm turn.cycle c.in-Some.pass.period in
+    let over : 48000 < joined = none_over joined (sym c.in_err-cycle.was ∙ c.common.ensures) in
+    let more = cycle_present passes turn.held-index turn.cycle c.in-Some.is c.loop-held-test.true in
+    c.from_residual.ensures ∙ limit_passed _ (omega (arith, over, cycle_from_lem joined (passes_from passes (turn.held-index + 1)), more, turn.invariant.2))
 
-pub returns-then-cycle-gt48000 : goal.returns-then-cycle-gt48000
-returns-then-cycle-gt48000 c = cycle_passed _ _ _ c.loop-number-test.true c.joined-cycle.ensures c.loop-number.invariant.3 c.if-cycle-gt48000.true
-
-pub loop-number-preserved : goal.loop-number-preserved
-loop-number-preserved c = (
-  search rules,
-  joined_above _ _ _ c.joined-cycle.ensures (search rules),
-  search rules,
-  cycle_more _ _ _ c.loop-number-test.true c.joined-cycle.ensures c.loop-number.invariant.3 c.if-cycle-gt48000.false,
-)
-
-pub returns : goal.returns
-returns c = cycle_end _ _ _ c.loop-number-test.false (search rules) c.loop-number.invariant.3
+pub loop-held-preserved : goal.loop-held-preserved
+loop-held-preserved c =
+    let passes = c.args.passes.now in
+    let turn = c.loop-held in
+    elim c.match-held.branch [
+      | in-Some+in_ok-cycle w ↦
+          let joined = lcm turn.cycle w.in-Some.pass.period in
+          let kept = kept_within joined (sym w.in_ok-cycle.was ∙ w.common.ensures) in
+          let same : c.match-held.cycle ≡ joined = w.cycle-is ∙ kept.0 in
+          rw same (omega (arith, lcm_from turn.cycle w.in-Some.pass.period, turn.invariant.0), kept.1, turn.invariant.2 ∙ cycle_present passes turn.held-index turn.cycle w.in-Some.is c.loop-held-test.true)
+      | in_default w ↦ rw w.cycle-is (turn.invariant.0, turn.invariant.1, turn.invariant.2 ∙ cycle_absent passes turn.held-index turn.cycle w.in_default.is c.loop-held-test.true)
+    ]

@@ -1,18 +1,14 @@
--- `passes::cycle::cycle_of` meets its contract. The loop's invariant: the whole cycle is that of the passes from `number` on, from the cycle found so far.
+-- `passes::cycle::cycle_of` meets its contract. The loop's invariant: the whole cycle is that of the passes from the index on, from the cycle found so far.
 -- Assumes nothing.
-use Prim.Native.Nat.{◌-◌, ◌<◌, ◌≤◌}
+use Prim.Native.Nat.{◌<◌, ◌≤◌}
 use mathlib.Core.Path.{◌≡◌}
 use Rattle.passes.specs.Expand.{cycle_from}
-use Rattle.passes.specs.Arrays.{in_order}
+use Rattle.passes.specs.Timely.{in_order}
 use Rattle.passes.proofs.Numbers.{passes_from}
 use Rattle.passes.proofs.cycle.cycle_of.Given as goal
 
-abbrev pub invariant-loop-number : goal.invariant-loop-number
-invariant-loop-number l =
-    (l.number ≤ 24)
-    × (0 < l.cycle)
+abbrev pub invariant-loop-held : goal.invariant-loop-held
+invariant-loop-held l =
+    (0 < l.cycle)
     × (l.cycle ≤ 48000)
-    × (cycle_from 1 (in_order l.passes) ≡ cycle_from l.cycle (passes_from l.passes l.number))
-
-abbrev pub decreases-loop-number : goal.decreases-loop-number
-decreases-loop-number l = 24 - l.number
+    × (cycle_from 1 (in_order l.passes) ≡ cycle_from l.cycle (passes_from l.passes l.held-index))

@@ -1,51 +1,50 @@
--- `passes::expand::count_links` meets its contract. The loop's invariant: the links counted and those of the records from place i on are all links.
--- Each record that is read is the next of the table's, and none is unreadable. Assumes nothing.
-use Prim.Native.Nat.{◌+◌, ◌/◌}
+-- `passes::expand::count_links` meets its contract. The loop's invariant: the links counted and those of the records from the place on are all links. Assumes nothing.
+use Prim.Native.Nat.{◌+◌}
 use native.Mathlib.Nat.{zero-add}
 use native.Mathlib.Omega.{arith}
 use mathlib.Core.Path.{sym, ap, ◌∙◌}
 use lib.ListN.{length}
 use borrow.Author.Rules.{rules}
-use Rattle.laws.proofs.Walking.{Next, next_member}
+use Rattle.laws.proofs.Walking.{next_at, next_member}
 use Rattle.laws.proofs.Gathering.{tally_more, tally_end}
+use Rattle.records.specs.Record.{in_passes}
+use Rattle.records.proofs.Reading.{length_decode}
 use Rattle.passes.specs.Call.{pass_table}
-use Rattle.passes.specs.Ends.{record_links, FlowFits}
-use Rattle.passes.proofs.Records.{next_pass, always_read, length_table}
-use Rattle.passes.proofs.Accepted.{whole_table, all_read, all_timely, cycle_within, flow_within, all_links}
+use Rattle.passes.specs.Ends.{record_links}
+use Rattle.passes.proofs.Accepted.{whole_table, flow_within, all_links}
 use Rattle.passes.proofs.expand.count_links.Goals as goal
 
-pub loop-i-init : goal.loop-i-init
-loop-i-init c = (search rules, search rules, ap length (all_links c.args.s.now c.requires) ∙ sym (zero-add _))
-
-pub read_pass-requires : goal.read_pass-requires
-read_pass-requires c = omega (arith, whole_table c.args.s.now c.requires)
-
-pub returns-in_default : goal.returns-in_default
-returns-in_default c =
-    absurd
-    (always_read c.args.s.now (length c.args.s.now / 12) (whole_table c.args.s.now c.requires).0 (all_read c.args.s.now c.requires) c.loop-i.i c.loop-i-test.true
-    c.read_pass.ensures c.in_default.is)
+pub loop-place-init : goal.loop-place-init
+loop-place-init c =
+    let accepted = c.args.accepted.now in
+    (search rules, ap length (all_links accepted.judged.table.bytes.now accepted.accepted) ∙ sym (zero-add _))
 
 pub count_record-links-requires : goal.count_record-links-requires
+unfolding pass_table
 count_record-links-requires c =
-    let next : Next (pass_table c.args.s.now) c.loop-i.i c.in-Record.r = next_pass c.args.s.now (length c.args.s.now / 12) (whole_table c.args.s.now c.requires).0 (all_read c.args.s.now c.requires) c.loop-i.i c.loop-i-test.true
-    c.read_pass.ensures c.in-Record.is in
-    let fits : FlowFits c.args.passes c.args.cycle c.in-Record.r = flow_within c.args.s.now c.requires c.in-Record.r (next_member (pass_table c.args.s.now) c.loop-i.i next) in
-    (cycle_within c.args.s.now c.requires, all_timely c.args.s.now c.requires, fits)
+    let accepted = c.args.accepted.now in
+    let table = pass_table accepted.judged.table.bytes.now in
+    flow_within accepted.judged.table.bytes.now accepted.accepted c.at.result (next_member table c.loop-place.place (next_at table c.loop-place.place c.at.ensures))
 
 pub overflow_add-links : goal.overflow_add-links
-overflow_add-links c = omega (arith, whole_table c.args.s.now c.requires)
+overflow_add-links c =
+    let table = c.args.accepted.now.judged.table in
+    let long = length_decode in_passes table.bytes.now table.count table.whole.size table.whole.readable in
+    omega (arith, whole_table table.bytes.now c.args.accepted.now.accepted, table.whole.size, long, c.count-place-end.ensures, c.loop-place-test.true, c.loop-place.invariant.0, c.count_record-links.ensures.1)
 
-pub loop-i-preserved : goal.loop-i-preserved
-loop-i-preserved c =
-    let next : Next (pass_table c.args.s.now) c.loop-i.i c.in-Record.r = next_pass c.args.s.now (length c.args.s.now / 12) (whole_table c.args.s.now c.requires).0 (all_read c.args.s.now c.requires) c.loop-i.i c.loop-i-test.true
-    c.read_pass.ensures c.in-Record.is in (
+pub loop-place-preserved : goal.loop-place-preserved
+unfolding pass_table
+loop-place-preserved c =
+    let accepted = c.args.accepted.now in
+    let table = pass_table accepted.judged.table.bytes.now in
+    let i = c.loop-place.place in (
       search rules,
-      search rules,
-      tally_more (record_links c.args.passes c.args.cycle) (pass_table c.args.s.now) c.loop-i.i c.loop-i.links next (ap (λ k. c.loop-i.links + k) c.count_record-links.ensures.0) c.loop-i.invariant.2,
+      tally_more (record_links accepted.plan.passes accepted.plan.cycle) table i c.loop-place.links (next_at table i c.at.ensures) (ap (λ k. c.loop-place.links + k) c.count_record-links.ensures.0) c.loop-place.invariant.1,
     )
 
 pub returns : goal.returns
+unfolding pass_table
 returns c =
-    let end = length_table c.args.s.now (length c.args.s.now / 12) (whole_table c.args.s.now c.requires).0 (all_read c.args.s.now c.requires) in
-    tally_end (record_links c.args.passes c.args.cycle) (pass_table c.args.s.now) c.loop-i.i c.loop-i.links (omega (arith, c.loop-i-test.false)) c.loop-i.invariant.2
+    let accepted = c.args.accepted.now in
+    let table = pass_table accepted.judged.table.bytes.now in
+    tally_end (record_links accepted.plan.passes accepted.plan.cycle) table c.loop-place.place c.loop-place.links (omega (arith, c.count-place-end.ensures, c.loop-place-test.false)) c.loop-place.invariant.1

@@ -1,6 +1,6 @@
--- `passes::expand::count_links` meets its contract. The loop's invariant: the links counted and those of the records from place i on are all links.
--- Each record that is read is the next of the table's, and none is unreadable. Assumes nothing.
-use Prim.Native.Nat.{◌+◌, ◌-◌, ◌*◌, ◌≤◌}
+-- `passes::expand::count_links` meets its contract. The loop's invariant: the links counted and those of the records from the place on are all links.
+-- Assumes nothing.
+use Prim.Native.Nat.{◌+◌, ◌*◌, ◌≤◌}
 use mathlib.Core.Path.{◌≡◌}
 use lib.ListN.{length, drop}
 use Rattle.laws.specs.Lists.{flat}
@@ -9,11 +9,9 @@ use Rattle.passes.specs.Call.{pass_table}
 use Rattle.passes.specs.Ends.{record_links}
 use Rattle.passes.proofs.expand.count_links.Given as goal
 
-abbrev pub invariant-loop-i : goal.invariant-loop-i
-invariant-loop-i l =
-    (l.i ≤ l.n)
-    × (l.links ≤ 48 * l.i)
-    × (length (flat (flow_links (pass_table l.s) l.cycle) (flows_of (pass_table l.s))) ≡ l.links + length (flat (record_links l.passes l.cycle) (drop l.i (pass_table l.s))))
-
-abbrev pub decreases-loop-i : goal.decreases-loop-i
-decreases-loop-i l = l.n - l.i
+abbrev pub invariant-loop-place : goal.invariant-loop-place
+invariant-loop-place l =
+    let plan = l.accepted.plan in
+    let table = pass_table l.accepted.judged.table.bytes.now in
+    (l.links ≤ 48 * l.place)
+    × (length (flat (flow_links table plan.cycle) (flows_of table)) ≡ l.links + length (flat (record_links plan.passes plan.cycle) (drop l.place table)))

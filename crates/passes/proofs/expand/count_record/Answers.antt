@@ -7,20 +7,17 @@ use borrow.Author.Rules.{rules}
 use Rattle.passes.proofs.expand.count_record.Goals as goal
 
 pub ends_of-requires : goal.ends_of-requires
-ends_of-requires c =
-    let ends = flow_fits c.args.passes c.args.cycle c.in-F.is c.requires.2 in
-    (ends.0, ends.1, search rules, c.requires.1)
-
-pub count_matched-requires : goal.count_matched-requires
-count_matched-requires c =
-    rw c.ends_of.ensures (flow_fits c.args.passes c.args.cycle c.in-F.is c.requires.2).2
+ends_of-requires c = flow_fits c.args.plan.now.passes c.args.plan.now.cycle c.in-F.is c.requires
 
 pub returns-in-P : goal.returns-in-P
-returns-in-P c = (sym (ap length (pass_links c.args.passes c.args.cycle c.in-P.is)), search rules)
+returns-in-P c =
+    let plan = c.args.plan.now in
+    (sym (ap length (pass_links plan.passes plan.cycle c.in-P.is)), search rules)
 
 pub returns-in-F : goal.returns-in-F
 returns-in-F c =
+    let plan = c.args.plan.now in
     let f = c.in-F.f in (
-      c.count_matched.ensures.by_index f.latency ∙ ap (λ e. length (matched_links e f.latency)) c.ends_of.ensures ∙ sym (ap length (flow_links_lem c.args.passes c.args.cycle c.in-F.is)),
-      c.count_matched.ensures.upper_bound,
+      c.count.ensures.by_index f.latency ∙ ap (λ e. length (matched_links e f.latency)) c.ends_of.ensures ∙ sym (ap length (flow_links_lem plan.passes plan.cycle c.in-F.is)),
+      c.count.ensures.upper_bound,
     )

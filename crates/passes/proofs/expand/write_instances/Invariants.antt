@@ -1,6 +1,6 @@
--- `passes::expand::write_instances` meets its contract. The loop's invariant: writing the instances from k on gives what writing all of them gives.
+-- `passes::expand::write_instances` meets its contract. The loop's invariant: writing the instances that are left gives what writing all of them gives.
 -- Assumes nothing.
-use Prim.Native.Nat.{◌+◌, ◌-◌, ◌≤◌}
+use Prim.Native.Nat.{◌+◌}
 use mathlib.Core.Path.{◌≡◌}
 use mathlib.Core.List.{map}
 use lib.ListN.{length}
@@ -12,12 +12,7 @@ use Rattle.passes.specs.Expand.{instance_of}
 use Rattle.passes.proofs.Instances.{instances_from}
 use Rattle.passes.proofs.expand.write_instances.Given as goal
 
-abbrev pub invariant-loop-k : goal.invariant-loop-k
-invariant-loop-k l =
-    (1 ≤ l.k)
-    × (l.k ≤ l.times + 1)
-    × (length l.out ≡ length l.initial.out)
-    × (written job_bytes l.out (l.first + (l.k - 1)) (instances_from l.pass l.first l.k (l.times + 1)) ≡ written job_bytes l.initial.out l.first (map J (map (instance_of l.pass l.first) (count 1 l.times))))
-
-abbrev pub decreases-loop-k : goal.decreases-loop-k
-decreases-loop-k l = l.times + 1 - l.k
+abbrev pub invariant-loop-before : goal.invariant-loop-before
+invariant-loop-before l =
+    (length l.out ≡ length l.initial.out)
+    × (written job_bytes l.out (l.first + l.before) (instances_from l.pass l.first l.before l.times) ≡ written job_bytes l.initial.out l.first (map J (map (instance_of l.pass l.first) (count 1 l.times))))

@@ -1,6 +1,6 @@
--- `passes::expand::write_links` meets its contract. The loop's invariant: writing the links of the records from place i on gives what writing those of all gives.
--- Each record that is read is the next of the table's, and none is unreadable. Assumes nothing.
-use Prim.Native.Nat.{◌+◌, ◌-◌, ◌≤◌}
+-- `passes::expand::write_links` meets its contract. The loop's invariant: writing the links of the records from the place on gives what writing those of all gives.
+-- Assumes nothing.
+use Prim.Native.Nat.{◌+◌}
 use mathlib.Core.Path.{◌≡◌}
 use mathlib.Core.List.{map}
 use lib.ListN.{length, drop}
@@ -15,12 +15,12 @@ use Rattle.passes.specs.Call.{pass_table}
 use Rattle.passes.specs.Ends.{record_links}
 use Rattle.passes.proofs.expand.write_links.Given as goal
 
-abbrev pub invariant-loop-i : goal.invariant-loop-i
-invariant-loop-i l =
-    (l.i ≤ l.n)
-    × (length l.out ≡ length l.initial.out)
-    × (length (flat (flow_links (pass_table l.s) l.cycle) (flows_of (pass_table l.s))) ≡ l.place + length (flat (record_links l.passes l.cycle) (drop l.i (pass_table l.s))))
-    × (written job_bytes l.out l.place (map L (flat (record_links l.passes l.cycle) (drop l.i (pass_table l.s)))) ≡ overwrite (encode job_bytes (map L (flat (flow_links (pass_table l.s) l.cycle) (flows_of (pass_table l.s))))) l.initial.out)
-
-abbrev pub decreases-loop-i : goal.decreases-loop-i
-decreases-loop-i l = l.n - l.i
+abbrev pub invariant-loop-place : goal.invariant-loop-place
+invariant-loop-place l =
+    let plan = l.accepted.plan in
+    let table = pass_table l.accepted.judged.table.bytes.now in
+    let all = flat (flow_links table plan.cycle) (flows_of table) in
+    let left = flat (record_links plan.passes plan.cycle) (drop l.place table) in
+    (length l.out ≡ length l.initial.out)
+    × (length all ≡ l.next + length left)
+    × (written job_bytes l.out l.next (map L left) ≡ overwrite (encode job_bytes (map L all)) l.initial.out)

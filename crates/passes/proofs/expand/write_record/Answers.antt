@@ -1,39 +1,11 @@
 -- `passes::expand::write_record` meets its contract: a flow's links are written, and a pass has none. Assumes nothing.
-use Prim.Native.Nat.{◌+◌}
-use native.Mathlib.Omega.{arith}
-use mathlib.Core.Path.{◌≡◌, sym, ap, ◌∙◌}
-use mathlib.Core.List.{map}
-use lib.ListN.{length}
-use Rattle.records.specs.declared.JobRecord.TheVariants.{L}
 use Rattle.records.proofs.Codec.{jobs}
 use Rattle.records.proofs.Writing.{written_none}
-use Rattle.passes.specs.Arrays.{written_at}
-use Rattle.passes.specs.Ends.{matched_links, record_links}
-use Rattle.passes.proofs.Matches.{flow_fits, flow_links_lem, pass_links}
-use borrow.Author.Rules.{rules}
+use Rattle.passes.proofs.Matches.{flow_fits, pass_links}
 use Rattle.passes.proofs.expand.write_record.Goals as goal
 
 pub ends_of-requires : goal.ends_of-requires
-ends_of-requires c =
-    let ends = flow_fits c.args.passes c.args.cycle c.in-F.is c.requires.cycle_bound.2 in
-    (ends.0, ends.1, search rules, c.requires.cycle_bound.1)
+ends_of-requires c = flow_fits c.args.plan.now.passes c.args.plan.now.cycle c.in-F.is c.requires.fits
 
-pub write_flow-requires : goal.write_flow-requires
-write_flow-requires c =
-    let is = c.in-F.is in
-    rw c.ends_of.ensures ((flow_fits c.args.passes c.args.cycle is c.requires.cycle_bound.2).2, omega (arith, ap length (flow_links_lem c.args.passes c.args.cycle is)))
-
-pub returns-in-P : goal.returns-in-P
-returns-in-P c =
-    let a = c.args in
-    rw (pass_links a.passes a.cycle c.in-P.is) (record { value = omega arith; out_after = written_none jobs a.out.now a.place })
-
-pub returns-in-F : goal.returns-in-F
-returns-in-F c =
-    let a = c.args in
-    let f = c.in-F.f in
-    let same : matched_links c.ends_of.result f.latency ≡ record_links a.passes a.cycle a.r =
-    ap (λ e. matched_links e f.latency) c.ends_of.ensures ∙ sym (flow_links_lem a.passes a.cycle c.in-F.is) in record {
-      value = c.write_flow.ensures.value ∙ ap (λ ls. a.place + length ls) same;
-      out_after = c.write_flow.ensures.out_after ∙ ap (λ ls. written_at a.out.now a.place (map L ls)) same;
-    }
+pub returns-in-P-clause-out_after : goal.returns-in-P-clause-out_after
+returns-in-P-clause-out_after c = rw (pass_links c.args.plan.now.passes c.args.plan.now.cycle c.in-P.is) (written_none jobs c.args.out.now c.args.place)

@@ -7,6 +7,6 @@ pub returns-then-s-ne0 : goal.returns-then-s-ne0
 unfolding bad_length
 returns-then-s-ne0 c = rw (ne_eqb _ _ c.if-s-ne0.true)
 
-pub returns : goal.returns
+pub returns-else-s-ne0 : goal.returns-else-s-ne0
 unfolding bad_length
-returns c = rw (eq-eqb _ _ c.if-s-ne0.false)
+returns-else-s-ne0 c = rw (eq-eqb _ _ c.if-s-ne0.false)

@@ -1,7 +1,0 @@
--- `passes::expand::ends_of` meets its contract: each part is looked up or counted. Assumes nothing.
-use Rattle.passes.specs.Ends.{ends_of}
-use Rattle.passes.proofs.expand.ends_of.Goals as goal
-
-pub returns : goal.returns
-unfolding ends_of
-returns c = rw (c.first_job.ensures, c.first_job-2.ensures, c.instances_of.ensures.0)
