@@ -12,13 +12,13 @@ use records::refusal::Refusal;
 use tables::judge::Judged;
 
 // A pass table within the limits: its records, its passes with their cycle, and how many jobs they have.
-#[derive(Drop)]
+#[derive(Clone, Copy)]
 pub struct Accepted<'a> {
     pub judged: Judged<'a, PassRecord>,
     pub plan: Plan,
     pub jobs: usize,
-    ghost accepted: { Accepted judged.table.bytes.now plan.passes plan.cycle },
-    ghost counted: { jobs ≡ job_count (cycle_of (pass_table judged.table.bytes.now)) (passes_in_order (pass_table judged.table.bytes.now)) },
+    pub ghost accepted: { Accepted judged.table.bytes.now plan.passes plan.cycle },
+    pub ghost counted: { jobs ≡ job_count (cycle_of (pass_table judged.table.bytes.now)) (passes_in_order (pass_table judged.table.bytes.now)) },
 }
 
 // How many F records a record is.
