@@ -147,6 +147,11 @@ module _ (g : Given) (s : State) (d b n : ℕ) where
           pub next_kept : after ≡ before
           next_kept = a.output ∙ ap (λ bytes. overwrite bytes before) (walk_none g b (opened g t (d + 1)) n ten)
 
+-- an answer of trying the jobs from a number on is one from the same number on, however that is spelled
+pub trying_from : (g : Given) (s : State) (d b n i j : ℕ) (r : Found) (before after : List ℕ) → Answers (walk g b (tried g s d i) n) r before after → i ≡ j
+    → Answers (walk g b (tried g s d j) n) r before after
+trying_from g s d b n i j r before after a e = rw (← e) a
+
 -- an answer to an outcome is one to an equal outcome, with an equal output before
 pub answers_same : (o p : Outcome) (r : Found) (before begun after : List ℕ) → o ≡ p → before ≡ begun → Answers o r before after → Answers p r begun after
 answers_same o p r before begun after e f a = rw (← e, ← f) a
