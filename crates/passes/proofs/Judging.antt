@@ -130,6 +130,15 @@ module _ (table : List PassRecord) where
   unfolding too_large
   cycle_large h = rw (lt-ltb 48000 (cycle_of table) h)
 
+  -- 6: over 64 F records, whatever cycle and jobs are
+  pub flows_large : 64 < length (flows_of table) → too_large table ≡ true
+  unfolding too_large
+  flows_large h = rw (lt-ltb 64 (length (flows_of table)) h) (last (ltb 48000 (cycle_of table) || ltb 48 (job_count (cycle_of table) (passes_in_order table))))
+    where
+      last : (b : Bool) → (b || true) ≡ true
+      last true = refl
+      last false = refl
+
   module _ (small : cycle_of table ≤ 48000) where
     -- 6: over 48 jobs
     pub jobs_large : 48 < job_count (cycle_of table) (passes_in_order table) → too_large table ≡ true
@@ -137,11 +146,6 @@ module _ (table : List PassRecord) where
     jobs_large h = rw (le-ltb 48000 (cycle_of table) small, lt-ltb 48 (job_count (cycle_of table) (passes_in_order table)) h)
 
     module _ (few : job_count (cycle_of table) (passes_in_order table) ≤ 48) where
-      -- 6: over 64 F records
-      pub flows_large : 64 < length (flows_of table) → too_large table ≡ true
-      unfolding too_large
-      flows_large h = rw (le-ltb 48000 (cycle_of table) small, le-ltb 48 (job_count (cycle_of table) (passes_in_order table)) few, lt-ltb 64 (length (flows_of table)) h)
-
       -- none of these
       pub not_large : length (flows_of table) ≤ 64 → too_large table ≡ false
       unfolding too_large
