@@ -2,10 +2,13 @@
 use Prim.Native.Nat.{ℕ, ◌<◌}
 use native.Mathlib.Omega.{arith}
 use mathlib.Core.Path.{◌≡◌, refl}
+use mathlib.Core.Bool.{false}
 use mathlib.Core.List.{List, []}
 use Rattle.std.specs.Prelude.{Some, slice_get}
+use lib.Dec.{ltb}
+use Rattle.laws.specs.Lists.{any}
 use Rattle.laws.proofs.Walking.{next_at, next_member}
-use Rattle.laws.proofs.Members.{first_fault_none}
+use Rattle.laws.proofs.Members.{or_false, false_or, first_fault_none}
 use Rattle.records.specs.Record.{in_jobs}
 use Rattle.records.specs.declared.Job.{Job}
 use Rattle.records.specs.declared.Link.{Link}
@@ -14,7 +17,7 @@ use Rattle.records.specs.declared.JobRecord.TheVariants.{J, L}
 use Rattle.tables.specs.Rules.{job_rules}
 use Rattle.tables.specs.Table.{read_number}
 use Rattle.tables.specs.Judge as judge
-use Rattle.jobs.specs.Judge.{bad_number, fault3, fault4, fault5, Sound}
+use Rattle.jobs.specs.Judge.{is_job, bad_number, fault3, fault4, fault5, Sound}
 use Rattle.jobs.specs.Call.{job_table, jobs_number}
 use Rattle.jobs.proofs.Sound.{fresh, link_known, numbers_below}
 
@@ -27,6 +30,11 @@ judged_sound sound = record { three = sound.three; four = sound.four; five = sou
 pub judged_number : (bytes : List ℕ) (later : ℕ) → judge.table_number job_rules in_jobs bytes later ≡ jobs_number bytes later
 unfolding judge.table_number read_number judge.fault3 judge.fault4 judge.fault5 jobs_number job_table fault3 fault4 fault5
 judged_number bytes later = refl
+
+-- a record that is not at fault by 3 is not so by itself
+pub good_alone : (before : List JobRecord) (r : JobRecord) → bad_number before r ≡ false → bad_number [] r ≡ false
+good_alone before (J j) e = false_or (or_false (ltb 47 j.number) (any (is_job j.number) before) e).0 refl
+good_alone before (L l) e = refl
 
 module _ (table : List JobRecord) (sound : judge.Sound job_rules table) (i : ℕ) {r : JobRecord} (here : slice_get table i ≡ Some r) where
   -- a job that stands in a judged table has a number below 48

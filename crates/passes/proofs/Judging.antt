@@ -8,17 +8,17 @@ use Rattle.std.specs.Prelude.{Option, None, Some, slice_get}
 use lib.Dec.{ltb}
 use lib.ListN.{length}
 use borrow.Author.Tests.{lt-ltb, le-ltb, ltb-false}
-use Rattle.laws.specs.Lists.{found}
-use Rattle.laws.proofs.Members.{or_false, first_fault_none}
+use Rattle.laws.specs.Lists.{found, any}
+use Rattle.laws.proofs.Members.{or_false, false_or, first_fault_none}
 use Rattle.laws.proofs.Walking.{next_at, next_member}
 use Rattle.records.specs.Outcome.{refuse}
 use Rattle.records.specs.Record.{in_passes}
 use Rattle.records.specs.Table.{bad_length, read_all, unreadable}
 use Rattle.records.specs.declared.Pass.{Pass}
 use Rattle.records.specs.declared.PassRecord.{PassRecord}
-use Rattle.records.specs.declared.PassRecord.TheVariants.{P}
+use Rattle.records.specs.declared.PassRecord.TheVariants.{P, F}
 use Rattle.records.proofs.Finding.{found_false, refuse_zero, refuse_rest, refuse_first}
-use Rattle.passes.specs.Judge.{bad_number, fault3, fault4, fault5}
+use Rattle.passes.specs.Judge.{is_pass, bad_number, fault3, fault4, fault5}
 use Rattle.passes.specs.Expand.{passes_in_order, flows_of, cycle_from, cycle_of, within_limit, job_count, too_large}
 use Rattle.passes.specs.Call.{pass_table, passes_number}
 use Rattle.passes.specs.Timely.{in_order, AllTimely}
@@ -43,6 +43,11 @@ judged_number bytes later = refl
 -- where none of the shared refusals holds, the number is that of its size
 pub size_number : (bytes : List ℕ) → ((later : ℕ) → judge.table_number pass_rules in_passes bytes later ≡ later) → {large : Bool} → too_large (pass_table bytes) ≡ large → passes_number bytes 0 ≡ refuse 6 large 0
 size_number bytes e large = sym (judged_number bytes 0) ∙ e _ ∙ ap (λ t. refuse 6 t 0) large
+
+-- a record that is not at fault by 3 is not so by itself
+pub good_alone : (before : List PassRecord) (r : PassRecord) → bad_number before r ≡ false → bad_number [] r ≡ false
+good_alone before (P p) e = false_or (or_false (ltb 23 p.number) (any (is_pass p.number) before) e).0 refl
+good_alone before (F f) e = refl
 
 -- a pass that stands in a judged table has a number below 24
 pub pass_fits : (table : List PassRecord) → judge.Sound pass_rules table → (i : ℕ) {r : PassRecord} → slice_get table i ≡ Some r → (p : Pass) → r ≡ P p → p.number < 24
@@ -125,6 +130,15 @@ module _ (table : List PassRecord) where
   unfolding too_large
   cycle_large h = rw (lt-ltb 48000 (cycle_of table) h)
 
+  -- 6: over 64 F records, whatever cycle and jobs are
+  pub flows_large : 64 < length (flows_of table) → too_large table ≡ true
+  unfolding too_large
+  flows_large h = rw (lt-ltb 64 (length (flows_of table)) h) (last (ltb 48000 (cycle_of table) || ltb 48 (job_count (cycle_of table) (passes_in_order table))))
+    where
+      last : (b : Bool) → (b || true) ≡ true
+      last true = refl
+      last false = refl
+
   module _ (small : cycle_of table ≤ 48000) where
     -- 6: over 48 jobs
     pub jobs_large : 48 < job_count (cycle_of table) (passes_in_order table) → too_large table ≡ true
@@ -132,11 +146,6 @@ module _ (table : List PassRecord) where
     jobs_large h = rw (le-ltb 48000 (cycle_of table) small, lt-ltb 48 (job_count (cycle_of table) (passes_in_order table)) h)
 
     module _ (few : job_count (cycle_of table) (passes_in_order table) ≤ 48) where
-      -- 6: over 64 F records
-      pub flows_large : 64 < length (flows_of table) → too_large table ≡ true
-      unfolding too_large
-      flows_large h = rw (le-ltb 48000 (cycle_of table) small, le-ltb 48 (job_count (cycle_of table) (passes_in_order table)) few, lt-ltb 64 (length (flows_of table)) h)
-
       -- none of these
       pub not_large : length (flows_of table) ≤ 64 → too_large table ≡ false
       unfolding too_large

@@ -38,6 +38,12 @@ count_next before times h = let left : times - before ≡ suc (times - (before +
 pub count_none : (before times : ℕ) → times ≤ before → count (before + 1) (times - before) ≡ []
 count_none before times h = let left : times - before ≡ 0 = omega arith in rw left
 
+-- the cycle of two lists of passes is that of the second, from the cycle of the first
+pub cycle_append : (c : ℕ) (ps qs : List Pass) → cycle_from c (ps ++ qs) ≡ cycle_from (cycle_from c ps) qs
+unfolding cycle_from
+cycle_append c [] qs = refl
+cycle_append c (p ∷ ps) qs = cycle_append (lcm c p.period) ps qs
+
 -- a cycle is at least what it was before
 pub cycle_from_lem : (c : ℕ) (ps : List Pass) → c ≤ cycle_from c ps
 unfolding cycle_from

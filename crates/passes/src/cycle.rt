@@ -80,7 +80,7 @@ impl Plan {
 
     // How many jobs the passes have: as many as stand before the number 24.
     #[tactic(auto, using(crate::proofs::First::first_all))]
-    pub(crate) fn job_count(&self) -> usize
+    pub fn job_count(&self) -> usize
         ensures { result ≡ job_count self.now.cycle (in_order self.now.passes) }
     {
         self.first_job(24)

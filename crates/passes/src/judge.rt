@@ -1,5 +1,5 @@
 // Judging a pass table: the refusals that both kinds of table share, and then its size.
-ghost use Rattle.std.specs.Prelude.{◌≡◌, [], ◌∷◌, ◌≤◌, length, MatchResult};
+ghost use Rattle.std.specs.Prelude.{◌≡◌, [], ◌∷◌, ◌≤◌, length, ltb, MatchResult};
 ghost use Rattle.records.specs.Outcome.{number_of};
 ghost use Rattle.passes.specs.Expand.{flows_of, cycle_of, passes_in_order, job_count};
 ghost use Rattle.passes.specs.Call.{pass_table, passes_number};
@@ -12,13 +12,13 @@ use records::refusal::Refusal;
 use tables::judge::Judged;
 
 // A pass table within the limits: its records, its passes with their cycle, and how many jobs they have.
-#[derive(Drop)]
+#[derive(Clone, Copy)]
 pub struct Accepted<'a> {
     pub judged: Judged<'a, PassRecord>,
     pub plan: Plan,
     pub jobs: usize,
-    ghost accepted: { Accepted judged.table.bytes.now plan.passes plan.cycle },
-    ghost counted: { jobs ≡ job_count (cycle_of (pass_table judged.table.bytes.now)) (passes_in_order (pass_table judged.table.bytes.now)) },
+    pub ghost accepted: { Accepted judged.table.bytes.now plan.passes plan.cycle },
+    pub ghost counted: { jobs ≡ job_count (cycle_of (pass_table judged.table.bytes.now)) (passes_in_order (pass_table judged.table.bytes.now)) },
 }
 
 // How many F records a record is.
@@ -28,15 +28,18 @@ fn one_flow(r: PassRecord) -> usize
     usize::from(matches!(r, PassRecord::F(_)))
 }
 
-// How many F records there are, repeats counted.
-fn count_flows(judged: &Judged<PassRecord>) -> usize
-    ensures { result ≡ length (flows_of (pass_table judged.now.table.bytes.now)) }
+// There are over 64 F records, repeats counted. No more are counted than tell it.
+fn too_many_flows(judged: &Judged<PassRecord>) -> bool
+    ensures { result ≡ ltb 64 (length (flows_of (pass_table judged.now.table.bytes.now))) }
 {
     let mut flows = 0;
     for place in 0..judged.table.count() {
         flows += one_flow(judged.table.at(place));
+        if 64 < flows {
+            return true;
+        }
     }
-    flows
+    false
 }
 
 // The pass table of some bytes within the limits, or the first refusal that holds.
@@ -44,13 +47,16 @@ pub fn judge<'a>(bytes: &'a [u8]) -> Result<Accepted<'a>, Refusal>
     ensures { MatchResult result (λ accepted. accepted.judged.table.bytes.now ≡ bytes.now) (λ refusal. passes_number bytes.now 0 ≡ number_of refusal) }
 {
     let judged: Judged<'a, PassRecord> = tables::judge::judge(bytes)?;
+    if too_many_flows(&judged) {
+        return Err(Refusal::TooLarge);
+    }
     let passes = load_passes(&judged);
     let Some(cycle) = cycle_of(&passes) else {
         return Err(Refusal::TooLarge);
     };
     let plan = Plan { passes, cycle };
     let jobs = plan.job_count();
-    if 48 < jobs || 64 < count_flows(&judged) {
+    if 48 < jobs {
         return Err(Refusal::TooLarge);
     }
     Ok(Accepted { judged, plan, jobs })

@@ -46,11 +46,22 @@ impl Writable for Slot {
     }
 }
 
+// Twelve bytes, written over.
+fn fill(place: &mut [u8], bytes: [u8; 12])
+    requires { length place.old ≡ 12 }
+    ensures { place.new ≡ bytes }
+{
+    let Some(room) = place.as_mut_array::<12>() else {
+        unreachable!()
+    };
+    *room = bytes;
+}
+
 // A record at a place of the output.
 pub fn write<W: Writable>(out: &mut [u8], place: usize, record: W)
     requires { 12 * place + 12 ≤ length out.old }
     ensures { out.new ≡ paste out.old (12 * place) (W.written «record») 12 }
 {
     let at = 12 * place;
-    out[at..at + 12].copy_from_slice(&record.to_bytes());
+    fill(&mut out[at..at + 12], record.to_bytes());
 }

@@ -13,7 +13,7 @@ use Rattle.search.specs.declared.State.{State}
 use Rattle.search.specs.declared.Found.{Found}
 use Rattle.search.specs.declared.Found.TheVariants.{Schedule, Nothing, Spent}
 use Rattle.std.specs.Prelude.{Some, None}
-use Rattle.search.specs.State.{Given, next_at, place_at, slots_in, Node, node, try_each_at, states_from, opened, tried, walk, number_of, Answers}
+use Rattle.search.specs.State.{Given, next_at, place_at, slots_in, Node, node, try_each_at, states_from, opened, tried, walk, number_of, openings_of, Answers}
 
 -- the tree, a step at a time
 module _ (g : Given) (s : State) (d : ℕ) where
@@ -104,16 +104,16 @@ some_found (Spent m) h e = absurd (omega (arith, e))
 module _ (g : Given) (s : State) (d b n : ℕ) where
   -- what each return of `open` shows
   module _ (before : List ℕ) where
-    pub open_spent : n ≡ b → Answers (walk g b (opened g s d) n) (Spent n) before before
-    open_spent h =
+    pub open_spent : (r : Found) (after : List ℕ) → n ≡ b → number_of r ≡ 11 → openings_of r ≡ b → after ≡ before → Answers (walk g b (opened g s d) n) r before after
+    open_spent r after h number openings output =
         let e = opened_some g s d in
-        rw (e.1, walk_spent g b (node s d) e.0 n h) record { number = refl; openings = h; output = refl }
+        rw (e.1, walk_spent g b (node s d) e.0 n h) record { number = number; openings = openings; output = output }
 
-    pub open_full : (after : List ℕ) → (n ≡ b → ⊥) → d ≡ g.count → after ≡ overwrite (slots_in g.cost s.order s.ends g.count) before
-        → Answers (walk g b (opened g s d) n) (Schedule (n + 1)) before after
-    open_full after h f output =
+    pub open_full : (r : Found) (after : List ℕ) → (n ≡ b → ⊥) → d ≡ g.count → number_of r ≡ 0 → openings_of r ≡ n + 1
+        → after ≡ overwrite (slots_in g.cost s.order s.ends g.count) before → Answers (walk g b (opened g s d) n) r before after
+    open_full r after h f number openings output =
         let e = opened_some g s d in
-        rw (e.1, walk_full g b (node s d) e.0 n h f) record { number = refl; openings = refl; output = output }
+        rw (e.1, walk_full g b (node s d) e.0 n h f) record { number = number; openings = openings; output = output }
 
     pub open_on : (r : Found) (after : List ℕ) → (n ≡ b → ⊥) → d < g.count → Answers (walk g b (tried g s d 0) (n + 1)) r before after
         → Answers (walk g b (opened g s d) n) r before after
@@ -146,6 +146,11 @@ module _ (g : Given) (s : State) (d b n : ℕ) where
 
           pub next_kept : after ≡ before
           next_kept = a.output ∙ ap (λ bytes. overwrite bytes before) (walk_none g b (opened g t (d + 1)) n ten)
+
+-- an answer of trying the jobs from a number on is one from the same number on, however that is spelled
+pub trying_from : (g : Given) (s : State) (d b n i j : ℕ) (r : Found) (before after : List ℕ) → Answers (walk g b (tried g s d i) n) r before after → i ≡ j
+    → Answers (walk g b (tried g s d j) n) r before after
+trying_from g s d b n i j r before after a e = rw (← e) a
 
 -- an answer to an outcome is one to an equal outcome, with an equal output before
 pub answers_same : (o p : Outcome) (r : Found) (before begun after : List ℕ) → o ≡ p → before ≡ begun → Answers o r before after → Answers p r begun after

@@ -1,5 +1,5 @@
 // Judging a table of either kind: the refusals that both share.
-ghost use Rattle.std.specs.Prelude.{ℕ, ◌≡◌, List, ◌∷◌, true, Some, None, MatchOption, MatchResult};
+ghost use Rattle.std.specs.Prelude.{ℕ, ◌≡◌, ⊤, List, ◌∷◌, true, Some, None, MatchOption, MatchResult};
 ghost use Rattle.laws.specs.Lists.{any, found};
 ghost use Rattle.records.specs.Outcome.{number_of};
 ghost use Rattle.records.specs.Table.{decode};
@@ -8,13 +8,25 @@ ghost use Rattle.tables.specs.Judge.{gives, marks, number_at_fault, loose, fault
 use crate::kind::Kind;
 use crate::table::Table;
 use records::refusal::Refusal;
+use std::alloc::AllocError;
 
 // A table of which none of the shared refusals holds.
-#[derive(Drop)]
 pub struct Judged<'a, R: Kind> {
     pub table: Table<'a, R>,
-    ghost sound: { Sound R.rules (decode R.reading table.bytes.now) },
+    pub ghost sound: { Sound R.rules (decode R.reading table.bytes.now) },
 }
+
+impl<'a, R: Kind> Clone for Judged<'a, R> {
+    ghost is_clone = { λ judged copy. copy ≡ judged };
+
+    ghost is_infallible = { λ _. ⊤ };
+
+    fn clone(&self) -> Result<Judged<'a, R>, AllocError> {
+        Ok(*self)
+    }
+}
+
+impl<'a, R: Kind> Copy for Judged<'a, R> {}
 
 // The table gives a number, as the marks say.
 fn is_given<R: Kind>(given: &[bool; 256], number: u8) -> bool

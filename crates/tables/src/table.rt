@@ -1,5 +1,5 @@
 // The bytes of a table as its records: whole ones, each of which can be read.
-ghost use Rattle.std.specs.Prelude.{ℕ, ◌≡◌, ◌<◌, [], length, Bool, false, Some, slice_get, MatchResult};
+ghost use Rattle.std.specs.Prelude.{ℕ, ◌≡◌, ◌<◌, ⊤, [], length, Bool, false, Some, slice_get, MatchResult};
 ghost use Rattle.laws.specs.Lists.{first_fault};
 ghost use Rattle.records.specs.Outcome.{number_of};
 ghost use Rattle.records.specs.Table.{bad_length, decode};
@@ -9,16 +9,28 @@ use records::plain::Readable;
 use records::read::read;
 use records::refusal::Refusal;
 use records::table::bad_length;
+use std::alloc::AllocError;
 use std::marker::PhantomData;
 
 // A table of whole records that can all be read.
-#[derive(Drop)]
 pub struct Table<'a, R: Readable> {
     pub bytes: &'a [u8],
     pub count: usize,
     pub kind: PhantomData<R>,
-    ghost whole: { Whole R.reading bytes.now count },
+    pub ghost whole: { Whole R.reading bytes.now count },
 }
+
+impl<'a, R: Readable> Clone for Table<'a, R> {
+    ghost is_clone = { λ table copy. copy ≡ table };
+
+    ghost is_infallible = { λ _. ⊤ };
+
+    fn clone(&self) -> Result<Table<'a, R>, AllocError> {
+        Ok(*self)
+    }
+}
+
+impl<'a, R: Readable> Copy for Table<'a, R> {}
 
 impl<'a, R: Readable> Table<'a, R> {
     // The table of some bytes, or why its records cannot be read.

@@ -1,16 +1,16 @@
 -- `passes::judge::judge` meets its contract: past the shared refusals the number is that of the table's size, and what was loaded and counted is the table's. Assumes nothing.
 use Prim.Native.Nat.{ℕ}
 use native.Mathlib.Omega.{arith}
-use mathlib.Core.Path.{◌≡◌, ◌∙◌, sym, ap}
-use mathlib.Core.Bool.{true}
+use mathlib.Core.Path.{◌∙◌, sym, ap}
 use mathlib.Core.List.{List}
 use Rattle.std.proofs.lemmas.Result.{err_from_is_err_and}
-use Rattle.passes.specs.Expand.{cycle_of, too_large}
+use lib.ListN.{length}
+use borrow.Author.Tests.{ltb-true, ltb-false}
+use Rattle.passes.specs.Expand.{flows_of, cycle_of, too_large}
 use Rattle.passes.specs.Call.{pass_table, passes_number}
 use Rattle.passes.proofs.Ceiling.{kept_within, none_over}
 use Rattle.passes.proofs.Judging.{judged_sound, judged_number, size_number, cycle_held, timely_held, jobs_held, cycle_large, jobs_large, flows_large, not_large}
 use Rattle.passes.proofs.judge.judge.Goals as goal
-use Rattle.passes.proofs.judge.judge.Goals.{then-jobs-gt48-via-then-jobs-gt48, then-jobs-gt48-via-else-jobs-gt48+then-count_flows-gt64}
 
 pub returns-in_err-judged : goal.returns-in_err-judged
 returns-in_err-judged c =
@@ -37,18 +37,19 @@ invariant_of-plan c =
     let kept = kept_within (cycle_of table) (sym c.in-Some.is ∙ cycle_held table c.load_passes-passes.ensures c.cycle_of.ensures) in
     record { timely = timely_held table c.load_passes-passes.ensures (judged_sound judged.sound); short = omega arith }
 
+pub returns-then-too_many_flows : goal.returns-then-too_many_flows
+returns-then-too_many_flows c =
+    let table = pass_table c.in_ok-judged.judged.table.bytes.now in
+    let over = ltb-true 64 (length (flows_of table)) (sym c.too_many_flows.ensures ∙ c.if-too_many_flows.true) in
+    size_number c.args.bytes.now c.in_ok-judged.ensures.1 (ap (λ (bytes : List ℕ). too_large (pass_table bytes)) (sym c.in_ok-judged.ensures.0) ∙ flows_large table over)
+
 pub returns-then-jobs-gt48 : goal.returns-then-jobs-gt48
 returns-then-jobs-gt48 c =
     let table = pass_table c.in_ok-judged.judged.table.bytes.now in
     let loaded = c.load_passes-passes.ensures in
     let kept = kept_within (cycle_of table) (sym c.in-Some.is ∙ cycle_held table loaded c.cycle_of.ensures) in
     let jobs = jobs_held table loaded c.job_count-jobs.ensures kept.0 in
-    let large : too_large table ≡ true = elim c.then-jobs-gt48.branch [
-      | then-jobs-gt48-via-then-jobs-gt48 w ↦ jobs_large table kept.1 (omega (arith, jobs, w.if-jobs-gt48.true))
-      | then-jobs-gt48-via-else-jobs-gt48+then-count_flows-gt64 w ↦
-          flows_large table kept.1 (omega (arith, jobs, w.if-jobs-gt48.false)) (omega (arith, w.count_flows.ensures, w.if-count_flows-gt64.true))
-    ] in
-    size_number c.args.bytes.now c.in_ok-judged.ensures.1 (ap (λ (bytes : List ℕ). too_large (pass_table bytes)) (sym c.in_ok-judged.ensures.0) ∙ large)
+    size_number c.args.bytes.now c.in_ok-judged.ensures.1 (ap (λ (bytes : List ℕ). too_large (pass_table bytes)) (sym c.in_ok-judged.ensures.0) ∙ jobs_large table kept.1 (omega (arith, jobs, c.if-jobs-gt48.true)))
 
 pub invariant_of-result : goal.invariant_of-result
 invariant_of-result c =
@@ -57,7 +58,7 @@ invariant_of-result c =
     let loaded = c.load_passes-passes.ensures in
     let kept = kept_within (cycle_of table) (sym c.in-Some.is ∙ cycle_held table loaded c.cycle_of.ensures) in
     let jobs = jobs_held table loaded c.job_count-jobs.ensures kept.0 in
-    let small = not_large table kept.1 (omega (arith, jobs, c.if-jobs-gt48.false)) (omega (arith, c.count_flows.ensures, c.if-count_flows-gt64.false)) in record {
+    let small = not_large table kept.1 (omega (arith, jobs, c.if-jobs-gt48.false)) (ltb-false 64 (length (flows_of table)) (sym c.too_many_flows.ensures ∙ c.if-too_many_flows.false)) in record {
       accepted = record {
         number = ap (λ (bytes : List ℕ). passes_number bytes 0) c.in_ok-judged.ensures.0
             ∙ size_number c.args.bytes.now c.in_ok-judged.ensures.1 (ap (λ (bytes : List ℕ). too_large (pass_table bytes)) (sym c.in_ok-judged.ensures.0) ∙ small);

@@ -1,6 +1,6 @@
 -- `open` and `try_next` end: a sequence is opened at a measure of 50 for each place left and 49 besides; trying its jobs from k on takes as many less as have been tried.
 -- The loop of `try_next` passes over jobs that may not come next: what is still to be looked through and the output stay.
-use Rattle.std.proofs.Common.{◌-◌, ◌≡◌, ◌+◌, ◌*◌, ◌≤◌}
+use Rattle.std.proofs.Common.{◌-◌, ◌≡◌, ◌+◌, ◌*◌}
 use Rattle.search.specs.State.{given_of, tried, walk}
 use Rattle.search.proofs.problem.Problem.+open_try_next.Given as goal
 
